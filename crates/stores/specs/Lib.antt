@@ -1,0 +1,4 @@
+pub mod Figures
+pub mod Flats
+pub mod Meanings
+pub mod Overlays
