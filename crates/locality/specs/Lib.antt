@@ -1,0 +1,4 @@
+pub mod Locality
+pub mod LocalityObjects
+pub mod LocalityFrames
+pub mod LocalityTrailers
