@@ -1,0 +1,11 @@
+pub mod Tests
+pub mod Digits
+pub mod Ends
+pub mod Tails
+pub mod Entries
+pub mod LastOffset
+pub mod WrittenSection
+pub mod Local
+pub mod LinesLocal
+pub mod SectionLocal
+pub mod Trailers
