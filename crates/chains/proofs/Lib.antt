@@ -1,0 +1,13 @@
+pub mod Steps
+pub mod Places
+pub mod Agree
+pub mod Windows
+pub mod Walks
+pub mod Histories
+pub mod Headers
+pub mod Openings
+pub mod Prefixes
+pub mod Ends
+pub mod Longer
+pub mod Added
+pub mod Needs
