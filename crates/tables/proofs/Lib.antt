@@ -1,0 +1,11 @@
+pub mod Finds
+pub mod Cells
+pub mod Counting
+pub mod Puts
+pub mod Offsets
+pub mod Rules
+pub mod Applied
+pub mod Answered
+pub mod ChangesBack
+pub mod SoundTables
+pub mod Made
