@@ -1,0 +1,13 @@
+pub mod Cases
+pub mod HexDigits
+pub mod Hexes
+pub mod Lines
+pub mod Literals
+pub mod Names
+pub mod Numerals
+pub mod Places
+pub mod Runs
+pub mod Sames
+pub mod Spaces
+pub mod Starts
+pub mod Tokens
