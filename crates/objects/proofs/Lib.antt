@@ -1,0 +1,15 @@
+pub mod Cases
+pub mod Extents
+pub mod Walks
+pub mod Turns
+pub mod Nested
+pub mod Founds
+pub mod References
+pub mod Streams
+pub mod Bodies
+pub mod Frames
+pub mod Ends
+pub mod Nexts
+pub mod ShiftedTokens
+pub mod ShiftedObjects
+pub mod ShiftedFrames
