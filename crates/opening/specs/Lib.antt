@@ -1,0 +1,4 @@
+pub mod Answers
+pub mod Backwards
+pub mod Entries
+pub mod Parts
