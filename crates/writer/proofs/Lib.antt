@@ -1,0 +1,4 @@
+pub mod Decimals
+pub mod Joined
+pub mod Lengths
+pub mod Pieces

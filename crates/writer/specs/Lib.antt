@@ -1,0 +1,4 @@
+pub mod Drafts
+pub mod Pieces
+pub mod Parts
+pub mod Bounds
