@@ -1,0 +1,5 @@
+mod Cuts
+mod Hexes
+mod Numerals
+mod Stretched
+mod Told

@@ -1,0 +1,10 @@
+pub mod Answers
+pub mod Benches
+pub mod Calls
+pub mod Commands
+pub mod Hex
+pub mod Lines
+pub mod Numbers
+pub mod Piles
+pub mod Readings
+pub mod Sorts
