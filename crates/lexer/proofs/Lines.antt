@@ -36,8 +36,8 @@ unfolding after_cr
 cr_last p = refl
 
 module _ (src : Bytes) (p : ℕ) where
-  pub line_no_bytes : length src ≤ p → no_bytes ≡ eol_at p (drop p src)
-  line_no_bytes h = sym (at_drop_all (eol_at p) src p h ∙ no_line p)
+  pub line_no_bytes : p ≡ length src → no_bytes ≡ eol_at p (drop p src)
+  line_no_bytes e = sym (at_drop_all (eol_at p) src p (omega arith) ∙ no_line p)
 
   module _ (h : p < length src) where
     pub line_lf : get_or src p 0 ≡ 10 → eol_to (p + 1) (drop (p + 1) src) ≡ eol_at p (drop p src)

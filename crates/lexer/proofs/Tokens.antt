@@ -19,8 +19,8 @@ unfolding start_at
 ended_here p = refl
 
 -- the bytes end
-pub ends_here : (src : Bytes) (p : ℕ) → length src ≤ p → start_at p (drop p src) ≡ tok ended p (drop p src) p (drop p src)
-ends_here src p h = rw (drop_all p src h) (ended_here p)
+pub ends_here : (src : Bytes) (p : ℕ) → p ≡ length src → start_at p (drop p src) ≡ tok ended p (drop p src) p (drop p src)
+ends_here src p e = rw (drop_all p src (omega arith)) (ended_here p)
 
 -- the bytes from the place of a token on
 pub as_dropped : (src : Bytes) (p q : ℕ) (k : Kind) {t : Token} → p < length src → t ≡ tok k p (bytes_at src p) q (drop q src) → t ≡ tok k p (drop p src) q (drop q src)
@@ -32,11 +32,11 @@ flaw_told t p f d e = ap (λ p. kind_fault p t.kind) d ∙ ap (kind_fault p) e
 pub took_moves : (t : Read) (p q n : ℕ) → Took t p q → Moves t p q n
 took_moves (Unsigned k) p q n h = h
 took_moves (Signed z) p q n h = h
-took_moves (Real s a) p q n h = h
-took_moves (Name s a) p q n h = h
-took_moves (Text s a) p q n h = h
-took_moves (Hex s a) p q n h = h
-took_moves (Word s a) p q n h = h
+took_moves (Real s) p q n h = h
+took_moves (Name s) p q n h = h
+took_moves (Text s) p q n h = h
+took_moves (Hex s) p q n h = h
+took_moves (Word s) p q n h = h
 took_moves OpenArray p q n h = h
 took_moves CloseArray p q n h = h
 took_moves OpenDict p q n h = h
@@ -46,11 +46,11 @@ took_moves End p q n h = absurd h
 pub took_byte : (t : Read) (p q : ℕ) → Took t p q → p < q
 took_byte (Unsigned k) p q h = h
 took_byte (Signed z) p q h = h
-took_byte (Real s a) p q h = h
-took_byte (Name s a) p q h = h
-took_byte (Text s a) p q h = h
-took_byte (Hex s a) p q h = h
-took_byte (Word s a) p q h = h
+took_byte (Real s) p q h = h
+took_byte (Name s) p q h = h
+took_byte (Text s) p q h = h
+took_byte (Hex s) p q h = h
+took_byte (Word s) p q h = h
 took_byte OpenArray p q h = h
 took_byte CloseArray p q h = h
 took_byte OpenDict p q h = h

@@ -1,5 +1,5 @@
 -- Tokens as the definitions say them.
-use Rattle.std.specs.Prelude.{◌≡◌, ℕ, suc, ◌+◌, ◌-◌, ◌<◌, ◌≤◌, true, false, ◌∷◌, length, drop, pos, Some, None, Ok, Err, Option, Result, slice_index, slice_range}
+use Rattle.std.specs.Prelude.{◌≡◌, ℕ, suc, ◌<◌, ◌≤◌, true, false, ◌∷◌, length, drop, pos, Some, None, Ok, Err, Option, Result, slice_index}
 use Rattle.faults.specs.declared.fault.Fault.{Fault}
 use Rattle.format.specs.Bytes.{Bytes}
 use Rattle.format.specs.Tokens as format
@@ -15,11 +15,11 @@ use Rattle.lexer.specs.Spelled.{spelled}
 abbrev pub kind_of : Token → format.Kind
 kind_of (Unsigned n) = format.int true (pos n)
 kind_of (Signed z) = format.int false z
-kind_of (Real s a) = format.real s.now
-kind_of (Name s a) = format.name (spelled s.now)
-kind_of (Text s a) = format.text s.now
-kind_of (Hex s a) = format.hex s.now
-kind_of (Word s a) = format.word s.now
+kind_of (Real s) = format.real s.now
+kind_of (Name s) = format.name (spelled s.now)
+kind_of (Text s) = format.text s.now
+kind_of (Hex s) = format.hex s.now
+kind_of (Word s) = format.word s.now
 kind_of OpenArray = format.mark format.open_array
 kind_of CloseArray = format.mark format.close_array
 kind_of OpenDict = format.mark format.open_dict
@@ -39,39 +39,20 @@ Reads src p t (Err f) = (t.from ≡ p) × (t.kind ≡ format.flawed (flaw_shown 
 abbrev pub Took : Token → ℕ → ℕ → Type 0
 Took (Unsigned n) p q = p < q
 Took (Signed z) p q = p < q
-Took (Real s a) p q = p < q
-Took (Name s a) p q = p < q
-Took (Text s a) p q = p < q
-Took (Hex s a) p q = p < q
-Took (Word s a) p q = p < q
+Took (Real s) p q = p < q
+Took (Name s) p q = p < q
+Took (Text s) p q = p < q
+Took (Hex s) p q = p < q
+Took (Word s) p q = p < q
 Took OpenArray p q = p < q
 Took CloseArray p q = p < q
 Took OpenDict p q = p < q
 Took CloseDict p q = p < q
 Took End p q = ⊥
 
--- the bytes w stand from the place a to the place q
-abbrev pub Standing : Bytes → Bytes → ℕ → ℕ → Type 0
-Standing src w a q = w ≡ slice_range src a q
-
--- what a token from p to q holds is a part of the bytes with its place: all of it, and of a name what stands behind the `/`
-abbrev pub Part : Bytes → Token → ℕ → ℕ → Type 0
-Part src (Unsigned n) p q = Unit {0}
-Part src (Signed z) p q = Unit {0}
-Part src (Real s a) p q = (a ≡ p) × Standing src s.now a q
-Part src (Name s a) p q = (a ≡ p + 1) × Standing src s.now a q
-Part src (Text s a) p q = (a ≡ p) × Standing src s.now a q
-Part src (Hex s a) p q = (a ≡ p) × Standing src s.now a q
-Part src (Word s a) p q = (a ≡ p) × Standing src s.now a q
-Part src OpenArray p q = Unit {0}
-Part src CloseArray p q = Unit {0}
-Part src OpenDict p q = Unit {0}
-Part src CloseDict p q = Unit {0}
-Part src End p q = Unit {0}
-
--- it takes a byte, and none past the end, and holds a part of the bytes
+-- it takes a byte, and none past the end
 abbrev pub Takes : Bytes → ℕ → Result (Token × ℕ) Flaw → Type 0
-Takes src p (Ok x) = Took x.0 p x.1 × (x.1 ≤ length src) × Part src x.0 p x.1
+Takes src p (Ok x) = Took x.0 p x.1 × (x.1 ≤ length src)
 Takes src p (Err f) = Unit {0}
 
 -- what was found, as the definition's token of the bytes src
@@ -98,28 +79,27 @@ abbrev pub Tells : Bytes → ℕ → Result Found Fault → Type 0
 Tells src p (Ok f) = token_at p (drop p src) ≡ found_token src f
 Tells src p (Err x) = token_fault_of (token_at p (drop p src)) ≡ Some x
 
--- from a token's first place to the place behind it: every token but the end takes a byte, and the end stands at n or past it
+-- from a token's first place to the place behind it: every token but the end takes a byte, and the end stands at n
 abbrev pub Moves : Token → ℕ → ℕ → ℕ → Type 0
 Moves (Unsigned k) p q n = p < q
 Moves (Signed z) p q n = p < q
-Moves (Real s a) p q n = p < q
-Moves (Name s a) p q n = p < q
-Moves (Text s a) p q n = p < q
-Moves (Hex s a) p q n = p < q
-Moves (Word s a) p q n = p < q
+Moves (Real s) p q n = p < q
+Moves (Name s) p q n = p < q
+Moves (Text s) p q n = p < q
+Moves (Hex s) p q n = p < q
+Moves (Word s) p q n = p < q
 Moves OpenArray p q n = p < q
 Moves CloseArray p q n = p < q
 Moves OpenDict p q n = p < q
 Moves CloseDict p q n = p < q
-Moves End p q n = (n ≤ p) × (q ≡ p)
+Moves End p q n = (p ≡ n) × (q ≡ n)
 
--- where a token that was looked for from p on stands: within the bytes, if p does
+-- where a token that was looked for from p on stands
 pub record Placed (src : Bytes) (p : ℕ) (f : Found) : Type 0 where
   pub starts : p ≤ f.from
   pub ends : f.from ≤ f.to
-  pub inside : p ≤ length src → f.to ≤ length src
+  pub inside : f.to ≤ length src
   pub moves : Moves f.token f.from f.to (length src)
-  pub part : Part src f.token f.from f.to
 
 abbrev pub PlacedIn : Bytes → ℕ → Result Found Fault → Type 0
 PlacedIn src p (Ok f) = Placed src p f

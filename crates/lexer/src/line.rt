@@ -1,5 +1,5 @@
 // Ends of line.
-ghost use Rattle.std.specs.Prelude.{◌≡◌, drop};
+ghost use Rattle.std.specs.Prelude.{◌≡◌, ◌≤◌, length, drop};
 ghost use Rattle.format.specs.Space.{eol_at};
 ghost use Rattle.lexer.specs.Endings.{line_shown, LineWithin};
 
@@ -15,10 +15,11 @@ pub enum LineEnd {
 }
 
 pub fn line_end(src: &[u8], at: usize) -> LineEnd
+    requires { at ≤ length src.now }
     ensures is { line_shown src.now result ≡ eol_at at (drop at src.now) }
     ensures within { LineWithin src.now at result }
 {
-    if at >= src.len() {
+    if at == src.len() {
         return LineEnd::NoBytes;
     }
     if src[at] == b'\n' {

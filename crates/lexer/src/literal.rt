@@ -1,5 +1,5 @@
 // Literal strings.
-ghost use Rattle.std.specs.Prelude.{◌≡◌, suc, ◌<◌, length, drop};
+ghost use Rattle.std.specs.Prelude.{◌≡◌, suc, ◌<◌, ◌≤◌, length, drop};
 ghost use Rattle.format.specs.Strings.{string_by};
 ghost use Rattle.lexer.specs.Endings.{literal_span, LiteralWithin};
 

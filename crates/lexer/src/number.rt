@@ -1,5 +1,5 @@
 // Numbers.
-ghost use Rattle.std.specs.Prelude.{◌≡◌, ◌+◌, ◌-◌, ◌*◌, ◌^◌, ◌<◌, ◌≤◌, min, true, false, length, pos, neg_ℤ, nat_le};
+ghost use Rattle.std.specs.Prelude.{◌≡◌, ◌+◌, ◌-◌, ◌*◌, ◌^◌, ◌<◌, ◌≤◌, min, Bool, true, false, length, pos, neg_ℤ, nat_le};
 ghost use Rattle.format.specs.Numbers.{numeral};
 ghost use Rattle.lexer.specs.Numerals.{numeral_shown, size_shown, walk, capped};
 

@@ -1,5 +1,5 @@
 // The token that starts at a place.
-ghost use Rattle.std.specs.Prelude.{◌≡◌, suc, ◌<◌, length, drop, slice_index};
+ghost use Rattle.std.specs.Prelude.{◌≡◌, suc, ◌<◌, ◌≤◌, true, false, length, drop, slice_index};
 ghost use Rattle.format.specs.Bytes.{is_regular, span};
 ghost use Rattle.format.specs.Numbers.{starts_number};
 ghost use Rattle.format.specs.Strings.{string};
@@ -24,7 +24,7 @@ fn name_at<'a>(src: &'a [u8], at: usize) -> Result<(Token<'a>, usize), Flaw>
     let to = run_end(src, at + 1);
     let name = &src[at + 1..to];
     match wrong_hash(name, at + 1) {
-        None => Ok((Token::Name(name, at + 1), to)),
+        None => Ok((Token::Name(name), to)),
         Some(place) => Err(Flaw::BadName(place)),
     }
 }
@@ -36,7 +36,7 @@ fn text_at<'a>(src: &'a [u8], at: usize) -> Result<(Token<'a>, usize), Flaw>
     ensures takes { Takes src.now at result }
 {
     match string_end(src, at) {
-        LiteralEnd::Closed(to) => Ok((Token::Text(&src[at..to], at), to)),
+        LiteralEnd::Closed(to) => Ok((Token::Text(&src[at..to]), to)),
         LiteralEnd::Unclosed => Err(Flaw::CutShort(src.len())),
         LiteralEnd::TooDeepAt(place) => Err(Flaw::DeepBracket(place)),
     }
@@ -55,7 +55,7 @@ fn less_at<'a>(src: &'a [u8], at: usize) -> Result<(Token<'a>, usize), Flaw>
         return Ok((Token::OpenDict, at + 2));
     }
     match hex_end(src, at + 1) {
-        HexEnd::Closed(to) => Ok((Token::Hex(&src[at..to], at), to)),
+        HexEnd::Closed(to) => Ok((Token::Hex(&src[at..to]), to)),
         HexEnd::Unclosed => Err(Flaw::CutShort(src.len())),
         HexEnd::BrokenAt(place) => Err(Flaw::BadHex(place)),
     }
@@ -91,12 +91,12 @@ fn run_at<'a>(src: &'a [u8], at: usize) -> Result<(Token<'a>, usize), Flaw>
     let to = run_end(src, at + 1);
     let run = &src[at..to];
     if !starts_number(src[at]) {
-        return Ok((Token::Word(run, at), to));
+        return Ok((Token::Word(run), to));
     }
     match numeral_of(run, at) {
         Numeral::Unsigned(n) => Ok((Token::Unsigned(n), to)),
         Numeral::Signed(z) => Ok((Token::Signed(z), to)),
-        Numeral::Fraction => Ok((Token::Real(run, at), to)),
+        Numeral::Fraction => Ok((Token::Real(run), to)),
         Numeral::PastBound => Err(Flaw::OutOfRange),
         Numeral::NoNumber(place) => Err(Flaw::BadNumber(place)),
     }

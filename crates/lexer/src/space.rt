@@ -5,11 +5,12 @@ ghost use Rattle.format.specs.Space.{skip};
 
 use crate::bytes::{is_eol, is_regular, is_white};
 
-// The first place from `from` on that is neither white space nor in a comment; past the end of the bytes, `from`.
+// The first place from `from` on that is neither white space nor in a comment.
 pub fn skip_space(src: &[u8], from: usize) -> usize
+    requires { from ≤ length src.now }
     ensures is { skip false from (drop from src.now) ≡ (result, drop result src.now) }
     ensures low { from ≤ result }
-    ensures high { from ≤ length src.now → result ≤ length src.now }
+    ensures high { result ≤ length src.now }
 {
     let mut at = from;
     let mut comment = false;
@@ -28,11 +29,12 @@ pub fn skip_space(src: &[u8], from: usize) -> usize
     at
 }
 
-// The place behind the regular bytes from `from` on; past the end of the bytes, `from`.
+// The place behind the regular bytes from `from` on.
 pub fn run_end(src: &[u8], from: usize) -> usize
+    requires { from ≤ length src.now }
     ensures is { span is_regular from (drop from src.now) ≡ (up_to from (drop from src.now) result, result, drop result src.now) }
     ensures low { from ≤ result }
-    ensures high { from ≤ length src.now → result ≤ length src.now }
+    ensures high { result ≤ length src.now }
 {
     let mut at = from;
     while at < src.len() && is_regular(src[at]) {

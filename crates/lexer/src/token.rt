@@ -1,12 +1,12 @@
 // Tokens.
+ghost use Rattle.std.specs.Prelude.{◌≡◌, ◌≤◌, length};
 ghost use Rattle.lexer.specs.Views.{Tells, PlacedIn};
 
 use crate::flaw::flaw_fault;
 use crate::reads::start_at;
 use crate::space::skip_space;
 use faults::fault::Fault;
-
-// A token. Its bytes are a part of the bytes in which it was read, and stand at the place beside them.
+// A token; its bytes stay where they are.
 #[derive(Clone, Copy, Debug)]
 pub enum Token<'a> {
     // an integer without a sign
@@ -14,15 +14,15 @@ pub enum Token<'a> {
     // an integer with one
     Signed(i32),
     // a real, with its bytes
-    Real(&'a [u8], usize),
+    Real(&'a [u8]),
     // a name, with its bytes behind the `/`: what they stand for, `crate::name` compares
-    Name(&'a [u8], usize),
+    Name(&'a [u8]),
     // a literal string, with its bytes from `(` to `)`
-    Text(&'a [u8], usize),
+    Text(&'a [u8]),
     // a hex string, with its bytes from `<` to `>`
-    Hex(&'a [u8], usize),
+    Hex(&'a [u8]),
     // any other regular bytes
-    Word(&'a [u8], usize),
+    Word(&'a [u8]),
     OpenArray,
     CloseArray,
     OpenDict,
@@ -41,11 +41,12 @@ pub struct Found<'a> {
 
 // The token that comes next from `from` on, behind white space and comments.
 pub fn token_at<'a>(src: &'a [u8], from: usize) -> Result<Found<'a>, Fault>
+    requires { from ≤ length src.now }
     ensures is { Tells src.now from result }
     ensures placed { PlacedIn src.now from result }
 {
     let at = skip_space(src, from);
-    if at >= src.len() {
+    if at == src.len() {
         return Ok(Found {
             token: Token::End,
             from: at,

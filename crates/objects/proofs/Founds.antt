@@ -64,12 +64,12 @@ module _ (src : Bytes) (p : ℕ) (f : Found) (e : token_in src p ≡ found_token
   found_from = ap (λ (t : format.Token). t.from) e
 
   -- where it ends
-  pub found_ends : Placed src p f → p ≤ length src → f.from < f.to → EndsAt src p f.to
-  found_ends h n l = record {
+  pub found_ends : Placed src p f → f.from < f.to → EndsAt src p f.to
+  found_ends h l = record {
     to = ap (λ (t : format.Token). t.to) e;
     rest = ap (λ (t : format.Token). t.rest) e;
     low = let a = h.starts in omega arith;
-    high = h.inside n;
+    high = h.inside;
   }
 
   -- what a dictionary has there
@@ -86,11 +86,11 @@ pub no_array_end : (t : Token) → (t ≡ CloseArray → ⊥) → closes_array (
 unfolding closes_array
 no_array_end (Unsigned n) h = refl
 no_array_end (Signed z) h = refl
-no_array_end (Real s a) h = refl
-no_array_end (Name s a) h = refl
-no_array_end (Text s a) h = refl
-no_array_end (Hex s a) h = refl
-no_array_end (Word s a) h = refl
+no_array_end (Real s) h = refl
+no_array_end (Name s) h = refl
+no_array_end (Text s) h = refl
+no_array_end (Hex s) h = refl
+no_array_end (Word s) h = refl
 no_array_end OpenArray h = refl
 no_array_end CloseArray h = absurd (h refl)
 no_array_end OpenDict h = refl
@@ -98,15 +98,15 @@ no_array_end CloseDict h = refl
 no_array_end End h = refl
 
 -- a token that is neither a key nor a dictionary's end nor the end of the bytes
-pub no_entry : (p : ℕ) (t : Token) → ((s : _) (a : ℕ) → t ≡ Name s a → ⊥) → (t ≡ CloseDict → ⊥) → (t ≡ End → ⊥) → next p (kind_of t) ≡ fails (object_fault BadToken p)
+pub no_entry : (p : ℕ) (t : Token) → ((s : _) → t ≡ Name s → ⊥) → (t ≡ CloseDict → ⊥) → (t ≡ End → ⊥) → next p (kind_of t) ≡ fails (object_fault BadToken p)
 unfolding next
 no_entry p (Unsigned n) h i j = refl
 no_entry p (Signed z) h i j = refl
-no_entry p (Real s a) h i j = refl
-no_entry p (Name s a) h i j = absurd (h s a refl)
-no_entry p (Text s a) h i j = refl
-no_entry p (Hex s a) h i j = refl
-no_entry p (Word s a) h i j = refl
+no_entry p (Real s) h i j = refl
+no_entry p (Name s) h i j = absurd (h s refl)
+no_entry p (Text s) h i j = refl
+no_entry p (Hex s) h i j = refl
+no_entry p (Word s) h i j = refl
 no_entry p OpenArray h i j = refl
 no_entry p CloseArray h i j = refl
 no_entry p OpenDict h i j = refl
@@ -118,11 +118,11 @@ pub no_int : (t : Token) → ((n : ℕ) → t ≡ Unsigned n → ⊥) → plain_
 unfolding plain_int
 no_int (Unsigned n) h = absurd (h n refl)
 no_int (Signed z) h = refl
-no_int (Real s a) h = refl
-no_int (Name s a) h = refl
-no_int (Text s a) h = refl
-no_int (Hex s a) h = refl
-no_int (Word s a) h = refl
+no_int (Real s) h = refl
+no_int (Name s) h = refl
+no_int (Text s) h = refl
+no_int (Hex s) h = refl
+no_int (Word s) h = refl
 no_int OpenArray h = refl
 no_int CloseArray h = refl
 no_int OpenDict h = refl
@@ -130,15 +130,15 @@ no_int CloseDict h = refl
 no_int End h = refl
 
 -- a token that is no word
-pub no_word : (w : Bytes) (t : Token) → ((s : _) (a : ℕ) → t ≡ Word s a → ⊥) → is_word w (kind_of t) ≡ false
+pub no_word : (w : Bytes) (t : Token) → ((s : _) → t ≡ Word s → ⊥) → is_word w (kind_of t) ≡ false
 unfolding is_word plain_word
 no_word w (Unsigned n) h = refl
 no_word w (Signed z) h = refl
-no_word w (Real s a) h = refl
-no_word w (Name s a) h = refl
-no_word w (Text s a) h = refl
-no_word w (Hex s a) h = refl
-no_word w (Word s a) h = absurd (h s a refl)
+no_word w (Real s) h = refl
+no_word w (Name s) h = refl
+no_word w (Text s) h = refl
+no_word w (Hex s) h = refl
+no_word w (Word s) h = absurd (h s refl)
 no_word w OpenArray h = refl
 no_word w CloseArray h = refl
 no_word w OpenDict h = refl

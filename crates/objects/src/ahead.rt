@@ -25,7 +25,7 @@ pub fn next_in<'a>(src: &'a [u8], from: usize) -> Ahead<'a>
     match token_at(src, from) {
         Ok(found) => match found.token {
             Token::CloseDict => Ahead::Closes(found.to),
-            Token::Name(name, _) => Ahead::Key(name, found.from, found.to),
+            Token::Name(name) => Ahead::Key(name, found.from, found.to),
             Token::End => Ahead::Refused(Fault::met(Reason::BytesEnd, Layer::Object, found.from)),
             _ => Ahead::Refused(Fault::met(Reason::BadToken, Layer::Object, found.from)),
         },

@@ -1,9 +1,7 @@
 // Readers of objects, dictionaries, streams and frames over bytes in memory. None of them takes memory.
 mod ahead;
 pub mod body;
-pub mod dictionary;
 pub mod frame;
-mod later;
 pub mod object;
 mod read;
 mod reference;

@@ -3,7 +3,6 @@ ghost use Rattle.std.specs.Prelude.{◌≡◌, ◌≤◌, length, if◌then◌el
 ghost use Rattle.objects.specs.Steps.{TakesInt, TakesR, Tries};
 
 use lexer::name::same_bytes;
-use lexer::reader::Lexer;
 use lexer::token::{Token, token_at};
 
 // Puts a place back where it was on every way out, unless what was tried for is found.
@@ -56,7 +55,7 @@ fn take_r(src: &[u8], place: &mut usize) -> bool
         Ok(found) => {
             *place = found.to;
             match found.token {
-                Token::Word(word, _) => same_bytes(b"R", word),
+                Token::Word(word) => same_bytes(b"R", word),
                 _ => false,
             }
         }
@@ -64,19 +63,21 @@ fn take_r(src: &[u8], place: &mut usize) -> bool
     }
 }
 
-// Behind the integer `number`: a generation and `R`, and the lexer's place moves behind them; or nothing, and the place stays.
-pub fn try_reference(lexer: &mut Lexer<'_>, number: u32) -> Option<u16>
-    ensures is { Tries lexer.old.src.now number lexer.old.place lexer.new.place result }
-    ensures src { lexer.new.src ≡ lexer.old.src }
+// Behind the integer `number`: a generation and `R`, and the place moves behind them; or nothing, and the place stays.
+pub fn try_reference(src: &[u8], place: &mut usize, number: u32) -> Option<u16>
+    requires { place.old ≤ length src.now }
+    ensures is { Tries src.now number place.old place.new result }
 {
-    let src = lexer.src;
-    let back = lexer.place;
+    let back = *place;
     let mut trial = Trial {
-        place: &mut lexer.place,
+        place,
         back,
         found: false,
     };
-    let generation = take_int(src, trial.place)?;
+    let generation = match take_int(src, trial.place) {
+        Some(generation) => generation,
+        None => return None,
+    };
     if number < 1 {
         return None;
     }

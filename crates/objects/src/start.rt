@@ -8,7 +8,6 @@ use faults::fault::Fault;
 use faults::layer::Layer;
 use faults::reason::Reason;
 use lexer::name::same_bytes;
-use lexer::reader::Lexer;
 use lexer::token::{Token, token_at};
 
 #[derive(Clone, Copy)]
@@ -59,18 +58,18 @@ pub fn start_of(src: &[u8], from: usize) -> Start
             let end = found.to;
             match found.token {
                 Token::Unsigned(n) => {
-                    let mut lexer = Lexer::at(src, end);
-                    match try_reference(&mut lexer, n) {
+                    let mut place = end;
+                    match try_reference(src, &mut place, n) {
                         Some(generation) => Start::Whole(Extent {
                             shape: Shape::Reference {
                                 number: n,
                                 generation,
                             },
-                            end: lexer.place,
+                            end: place,
                         }),
                         None => Start::Whole(Extent {
                             shape: Shape::Integer(whole(n)),
-                            end: lexer.place,
+                            end: place,
                         }),
                     }
                 }
@@ -78,23 +77,23 @@ pub fn start_of(src: &[u8], from: usize) -> Start
                     shape: Shape::Integer(signed(z)),
                     end,
                 }),
-                Token::Real(_, _) => Start::Whole(Extent {
+                Token::Real(_) => Start::Whole(Extent {
                     shape: Shape::Real,
                     end,
                 }),
-                Token::Name(_, _) => Start::Whole(Extent {
+                Token::Name(_) => Start::Whole(Extent {
                     shape: Shape::Name,
                     end,
                 }),
-                Token::Text(_, _) => Start::Whole(Extent {
+                Token::Text(_) => Start::Whole(Extent {
                     shape: Shape::Text,
                     end,
                 }),
-                Token::Hex(_, _) => Start::Whole(Extent {
+                Token::Hex(_) => Start::Whole(Extent {
                     shape: Shape::Hex,
                     end,
                 }),
-                Token::Word(word, _) => match word_shape(word) {
+                Token::Word(word) => match word_shape(word) {
                     Some(shape) => Start::Whole(Extent { shape, end }),
                     None => Start::Refused(Fault::met(Reason::BadToken, Layer::Object, found.from)),
                 },

@@ -1,9 +1,4 @@
 pub mod Answers
 pub mod Backwards
-pub mod Figures
-pub mod Held
+pub mod Entries
 pub mod Parts
-pub mod Readings
-pub mod Subsections
-pub mod Trailers
-pub mod Sections

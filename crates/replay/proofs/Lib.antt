@@ -1,10 +1,5 @@
-mod Asked
-mod Changing
 mod Cuts
-mod Framed
 mod Hexes
 mod Numerals
 mod Stretched
 mod Told
-mod Tying
-mod Valued

@@ -1,5 +1,5 @@
 -- Tokens that are told one after the other.
-use Rattle.std.proofs.Common.{◌≡◌, ℕ, ◌-◌, ◌<◌, ◌≤◌, List, [], ◌∷◌, ◌++◌, length, Some, None, sym, refl, ap, ◌∙◌, arith}
+use Rattle.std.proofs.Common.{◌≡◌, ℕ, ◌-◌, ◌<◌, List, [], ◌∷◌, ◌++◌, length, Some, None, sym, refl, ap, ◌∙◌, arith}
 use Rattle.format.specs.Bytes.{Bytes}
 use Rattle.format.specs.Tokens as format
 use Rattle.lexer.specs.declared.token.Found.{Found}
@@ -24,11 +24,11 @@ no_sort s e = let z : ◌≡◌ {A = ℕ} 0 1 = cc in absurd (omega arith)
 pub sortless : (t : Token) → sort_of (kind_of t) ≡ None → kind_of t ≡ format.ended
 sortless (Unsigned n) e = no_sort _ e
 sortless (Signed z) e = no_sort _ e
-sortless (Real s a) e = no_sort _ e
-sortless (Name s a) e = no_sort _ e
-sortless (Text s a) e = no_sort _ e
-sortless (Hex s a) e = no_sort _ e
-sortless (Word s a) e = no_sort _ e
+sortless (Real s) e = no_sort _ e
+sortless (Name s) e = no_sort _ e
+sortless (Text s) e = no_sort _ e
+sortless (Hex s) e = no_sort _ e
+sortless (Word s) e = no_sort _ e
 sortless OpenArray e = no_sort _ e
 sortless CloseArray e = no_sort _ e
 sortless OpenDict e = no_sort _ e
@@ -39,11 +39,11 @@ sortless End e = refl
 pub sorted_moves : (t : Token) (s : Sort) (p q n : ℕ) → sort_of (kind_of t) ≡ Some s → Moves t p q n → p < q
 sorted_moves (Unsigned k) s p q n e h = h
 sorted_moves (Signed z) s p q n e h = h
-sorted_moves (Real w a) s p q n e h = h
-sorted_moves (Name w a) s p q n e h = h
-sorted_moves (Text w a) s p q n e h = h
-sorted_moves (Hex w a) s p q n e h = h
-sorted_moves (Word w a) s p q n e h = h
+sorted_moves (Real w) s p q n e h = h
+sorted_moves (Name w) s p q n e h = h
+sorted_moves (Text w) s p q n e h = h
+sorted_moves (Hex w) s p q n e h = h
+sorted_moves (Word w) s p q n e h = h
 sorted_moves OpenArray s p q n e h = h
 sorted_moves CloseArray s p q n e h = h
 sorted_moves OpenDict s p q n e h = h
@@ -61,9 +61,9 @@ found_told src p vs ws f s told is sorted items =
     rw items (moved src _ _ _ (ap (λ t. t.to) is) (one_more src 0 p vs _ told tells))
 
 -- each token leaves less
-pub found_less : (src : Bytes) (p : ℕ) (f : Found) (s : Sort) → sort_of (kind_of f.token) ≡ Some s → Placed src p f → p ≤ length src → length src - f.to < length src - p
-found_less src p f s sorted placed h =
-    omega (arith, placed.starts, placed.inside h, sorted_moves f.token s f.from f.to (length src) sorted placed.moves)
+pub found_less : (src : Bytes) (p : ℕ) (f : Found) (s : Sort) → sort_of (kind_of f.token) ≡ Some s → Placed src p f → length src - f.to < length src - p
+found_less src p f s sorted placed =
+    omega (arith, placed.starts, placed.inside, sorted_moves f.token s f.from f.to (length src) sorted placed.moves)
 
 -- at the end all is told
 pub all_told : (src : Bytes) (p : ℕ) (vs : List Value) (f : Found) → TokensBetween src 0 vs p → next_token src p ≡ found_token src f → sort_of (kind_of f.token) ≡ None → AllTold src vs

@@ -1,15 +1,13 @@
--- What a line does to the book on the bench.
-use Rattle.std.specs.Prelude.{◌≡◌, ℕ, Bool, ◌⊎◌, List, [], Ok, Err, vec_items, Result, MatchResult}
-use Rattle.book.specs.Slips.{is_spent}
+-- What a line does to the stores on the bench.
+use Rattle.std.specs.Prelude.{◌≡◌, ℕ, ◌⊎◌, List, [], Ok, Err, vec_items, Result, MatchResult}
+use Rattle.replay.specs.Calls.{Answer}
 use Rattle.replay.specs.Commands.{Written}
-use Rattle.replay.specs.Piles.{Kept, Laid, Made, PileActed, PileAsked, PileChanged}
+use Rattle.replay.specs.Piles.{Laid, Made, PileCalled}
 use Rattle.replay.specs.Readings.{ReadAs}
-use Rattle.replay.specs.Values.{Answer}
 use Rattle.replay.specs.declared.answer.Setback.{Setback}
 use Rattle.replay.specs.declared.answer.Setback.TheVariants.{Trouble}
-use Rattle.replay.specs.declared.bench.Bench.{Bench}
 use Rattle.replay.specs.declared.command.Command.{Command}
-use Rattle.replay.specs.declared.command.Command.TheVariants.{Flat, Overlay, Store, Act, Ask, Read}
+use Rattle.replay.specs.declared.command.Command.TheVariants.{Flat, Overlay, Store, Read}
 use Rattle.replay.specs.declared.pile.Pile.{Pile}
 use Rattle.replay.specs.declared.trouble.Trouble as trouble
 
@@ -23,20 +21,17 @@ pub record Plainly (Does : Result (Unit {0}) Setback → Type 0) (r : Answer) : 
   pub does : Does result
   pub plain : Plain r result
 
--- `spent` says whether the newest slip is
-abbrev pub Performed : Pile → (spent : Bool) → Command → Answer → Pile → Type 0
-Performed was spent (Flat space bytes) r is = Plainly (λ u. Made space bytes was u is) r
-Performed was spent Overlay r is = Plainly (λ u. Laid was u is) r
-Performed was spent (Store call) r is = PileChanged was call r is
-Performed was spent (Act action) r is = PileActed was spent action r is
-Performed was spent (Ask question) r is = PileAsked was question r × (is ≡ was)
-Performed was spent (Read reading) r is = ReadAs reading r × (is ≡ was)
+abbrev pub Performed : Pile → Command → Answer → Pile → Type 0
+Performed was (Flat space bytes) r is = Plainly (λ u. Made space bytes was u is) r
+Performed was Overlay r is = Plainly (λ u. Laid was u is) r
+Performed was (Store call) r is = PileCalled was call r is
+Performed was (Read reading) r is = ReadAs reading r × (is ≡ was)
 
 -- the line writes a command, which is performed
-pub record Obeyed (was : Pile) (spent : Bool) (line : List ℕ) (r : Answer) (is : Pile) : Type 0 where
+pub record Obeyed (was : Pile) (line : List ℕ) (r : Answer) (is : Pile) : Type 0 where
   pub command : Command
   pub written : Written command line
-  pub performed : Performed was spent command r is
+  pub performed : Performed was command r is
 
 -- the bench could not take the line, and nothing has changed
 pub record Passed (was : Pile) (r : Answer) (is : Pile) : Type 0 where
@@ -44,9 +39,5 @@ pub record Passed (was : Pile) (r : Answer) (is : Pile) : Type 0 where
   pub answer : r ≡ Err (Trouble why)
   pub same : is ≡ was
 
-abbrev pub Answered : Pile → (spent : Bool) → List ℕ → Answer → Pile → Type 0
-Answered was spent line r is = Obeyed was spent line r is ⊎ Passed was r is
-
--- what every line asks for and keeps
-abbrev pub Ready : Bench → Type 0
-Ready b = Kept (is_spent b.slip) b.pile
+abbrev pub Answered : Pile → List ℕ → Answer → Pile → Type 0
+Answered was line r is = Obeyed was line r is ⊎ Passed was r is

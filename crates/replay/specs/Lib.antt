@@ -1,4 +1,3 @@
-pub mod Actions
 pub mod Answers
 pub mod Benches
 pub mod Calls
@@ -7,7 +6,5 @@ pub mod Hex
 pub mod Lines
 pub mod Numbers
 pub mod Piles
-pub mod Questions
 pub mod Readings
 pub mod Sorts
-pub mod Values

@@ -1,12 +1,10 @@
 // What a command is answered, as one line.
-ghost use Rattle.std.specs.Prelude.{◌≡◌, Some};
+ghost use Rattle.std.specs.Prelude.{Some};
 ghost use Rattle.replay.specs.Answers.{refusal_words};
-ghost use Rattle.replay.specs.Values.{NumbersTold, TextTold, no_memory, of_fault, of_trouble};
 
 use crate::sort::Sort;
 use crate::trouble::Trouble;
 use faults::fault::Fault;
-use std::alloc::{AllocError, AllocFailed, Global};
 use std::io::Write;
 use std::{fmt, io};
 
@@ -29,58 +27,6 @@ pub enum Setback {
     Fault(Fault),
     // The bench could not make it.
     Trouble(Trouble),
-}
-
-impl From<Fault> for Setback {
-    ghost from_gives = { λ f r. r ≡ of_fault f };
-
-    fn from(fault: Fault) -> Setback {
-        Setback::Fault(fault)
-    }
-}
-
-impl From<Trouble> for Setback {
-    ghost from_gives = { λ t r. r ≡ of_trouble t };
-
-    fn from(trouble: Trouble) -> Setback {
-        Setback::Trouble(trouble)
-    }
-}
-
-impl From<AllocError> for Setback {
-    ghost from_gives = { λ _ r. r ≡ no_memory };
-
-    fn from(_lack: AllocError) -> Setback {
-        Setback::Trouble(Trouble::NoMemory)
-    }
-}
-
-impl<T: Drop> From<AllocFailed<T>> for Setback {
-    ghost from_gives = { λ _ r. r ≡ no_memory };
-
-    fn from(_refused: AllocFailed<T>) -> Setback {
-        Setback::Trouble(Trouble::NoMemory)
-    }
-}
-
-// Numbers as the values of an answer.
-pub fn numbers(heap: Global, all: &[usize]) -> Answer
-    ensures { NumbersTold all.now result }
-{
-    let mut values = Vec::new(heap);
-    for n in all {
-        values.push(Value::Number(*n))?;
-    }
-    Ok(values)
-}
-
-// Numbers, and then the digits of bytes.
-pub fn with_hex(heap: Global, front: &[usize], text: Vec<u8>) -> Answer
-    ensures { TextTold front.now text result }
-{
-    let mut values = numbers(heap, front)?;
-    values.push(Value::Hex(text))?;
-    Ok(values)
 }
 
 // A fault in the form that other tools read.

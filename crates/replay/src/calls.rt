@@ -1,47 +1,93 @@
-// What changes a store, while its book is shut.
-ghost use Rattle.book.specs.Books.{Sound, moment_of};
-ghost use Rattle.replay.specs.Calls.{Appended, Called, Changed, CutBack};
+// The calls of a store.
+ghost use Rattle.std.specs.Prelude.{◌≡◌, IfOk};
+ghost use Rattle.replay.specs.Calls.{Appended, BytesTold, ByteTold, Called, CutBack, Listing};
+ghost use Rattle.replay.specs.Hex.{hex_of};
 
-use crate::answer::{Answer, Setback};
+use crate::answer::{Answer, Setback, Value};
 use crate::command::Call;
+use crate::hex;
 use crate::trouble::Trouble;
-use book::book::Book;
-use std::alloc::Global;
+use std::alloc::{AllocError, Global};
 use stores::store::Store;
 
-// An open book goes by what it has read, so nothing changes its store but its own calls.
-pub fn change<S: Store>(heap: Global, book: Book<S>, call: &Call) -> (Book<S>, Answer)
-    requires { Sound S.Store.meaning book }
-    ensures changed { Changed (moment_of S.Store.meaning book) call.now result.1 (moment_of S.Store.meaning result.0) }
-    ensures sound { Sound S.Store.meaning result.0 }
-{
-    if !book.is_shut() {
-        return (book, Err(Setback::Trouble(Trouble::BookOpen)));
-    }
-    let (mut store, memory) = book.into_parts();
-    let answer = answer(heap, &mut store, call);
-    (Book::new(store, memory), answer)
-}
+// How many bytes are read at once.
+const WINDOW: usize = 4096;
 
-fn answer<S: Store>(heap: Global, store: &mut S, call: &Call) -> Answer
+pub fn answer<S: Store>(heap: Global, store: &mut S, call: &Call) -> Answer
     ensures { Called (S.Store.meaning store.old) call.now result (S.Store.meaning store.new) }
 {
     match call {
         Call::Append(more) => append(heap, store, more.as_slice()),
         Call::Cut(n) => cut(heap, store, *n),
+        Call::Byte(place) => byte(heap, store, *place),
+        Call::Bytes => bytes(heap, store),
     }
 }
 
 fn append<S: Store>(heap: Global, store: &mut S, more: &[u8]) -> Answer
     ensures { Appended (S.Store.meaning store.old) more.now result (S.Store.meaning store.new) }
 {
-    store.append(more)?;
-    Ok(Vec::new(heap))
+    match store.append(more) {
+        Ok(()) => Ok(Vec::new(heap)),
+        Err(fault) => Err(Setback::Fault(fault)),
+    }
 }
 
 fn cut<S: Store>(heap: Global, store: &mut S, n: usize) -> Answer
     ensures { CutBack (S.Store.meaning store.old) n result (S.Store.meaning store.new) }
 {
-    store.cut(n)?;
-    Ok(Vec::new(heap))
+    match store.cut(n) {
+        Ok(()) => Ok(Vec::new(heap)),
+        Err(fault) => Err(Setback::Fault(fault)),
+    }
+}
+
+fn byte<S: Store>(heap: Global, store: &S, place: usize) -> Answer
+    ensures { ByteTold (S.Store.meaning store.now) place result }
+{
+    let value = match store.byte_at(place) {
+        Some(b) => Value::Number(usize::from(b)),
+        None => Value::Nothing,
+    };
+    let mut values = Vec::new(heap);
+    match values.push(value) {
+        Ok(()) => Ok(values),
+        Err(_) => Err(Setback::Trouble(Trouble::NoMemory)),
+    }
+}
+
+fn bytes<S: Store>(heap: Global, store: &S) -> Answer
+    ensures { BytesTold (S.Store.meaning store.now) result }
+{
+    match listing(heap, store) {
+        Ok(values) => Ok(values),
+        Err(_) => Err(Setback::Trouble(Trouble::NoMemory)),
+    }
+}
+
+// The length, the space, and the bytes in hex.
+fn listing<S: Store>(heap: Global, store: &S) -> Result<Vec<Value>, AllocError>
+    ensures { IfOk result (λ vs. Listing (S.Store.meaning store.now) vs.items) }
+{
+    let text = digits(heap, store)?;
+    let mut values = Vec::new(heap);
+    values.push(Value::Number(store.len()))?;
+    values.push(Value::Number(store.space()))?;
+    values.push(Value::Hex(text))?;
+    Ok(values)
+}
+
+fn digits<S: Store>(heap: Global, store: &S) -> Result<Vec<u8>, AllocError>
+    ensures { IfOk result (λ v. v.items ≡ hex_of (S.Store.meaning store.now).bytes) }
+{
+    let length = store.len();
+    let mut text = Vec::with_capacity(heap, length.saturating_mul(2))?;
+    let mut window = [0; WINDOW];
+    let mut place = 0;
+    while place < length {
+        let count = store.read(place, &mut window);
+        hex::encode(&window[0..count], &mut text)?;
+        place += count;
+    }
+    Ok(text)
 }

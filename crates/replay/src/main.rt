@@ -1,7 +1,4 @@
 // The test bench: runs the commands of the standard input, a line each, and answers each by a line.
-ghost use Rattle.replay.specs.Benches.{Ready};
-
-mod actions;
 mod answer;
 mod bench;
 mod calls;
@@ -10,7 +7,6 @@ mod hex;
 mod lines;
 mod number;
 mod pile;
-mod questions;
 mod readings;
 mod sort;
 mod trouble;
@@ -24,20 +20,11 @@ use std::io::{BufReader, BufWriter, Write};
 use trouble::Trouble;
 
 fn main(rt: HostRuntime) -> io::Result<()> {
-    let mut bench = Bench::new(rt.alloc());
-    let result = serve(rt, &mut bench);
-    bench.clear();
-    result
-}
-
-// Answers every line of the input.
-fn serve(rt: HostRuntime, bench: &mut Bench) -> io::Result<()>
-    requires { Ready bench.old }
-    ensures { Ready bench.new }
-{
-    let mut input = BufReader::new(rt.alloc(), rt.stdin())?;
-    let mut output = BufWriter::new(rt.alloc(), rt.stdout())?;
-    let mut line = Vec::new(rt.alloc());
+    let heap = rt.alloc();
+    let mut bench = Bench::new(heap);
+    let mut input = BufReader::new(heap, rt.stdin())?;
+    let mut output = BufWriter::new(heap, rt.stdout())?;
+    let mut line = Vec::new(heap);
     // Nothing says that the input ends, so the lines are counted.
     for _ in 0..u64::MAX {
         // Whoever waits for an answer before the next command gets it.

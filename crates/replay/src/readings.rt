@@ -1,13 +1,14 @@
 // What is read in given bytes.
-ghost use Rattle.replay.specs.Readings.{BodyTold, FrameTold, ObjectTold, ReadAs, TokensTold};
+ghost use Rattle.replay.specs.Readings.{BodyTold, ReadAs, TokensTold};
 
-use crate::answer::{Answer, Setback, Value, numbers};
+use crate::answer::{Answer, Setback, Value};
 use crate::command::Reading;
 use crate::sort::Sort;
 use crate::trouble::Trouble;
+use faults::fault::Fault;
 use lexer::token::token_at;
 use objects::body::check_body;
-use objects::frame::read_frame_at;
+use objects::frame::read_frame;
 use objects::object::object_at;
 use std::alloc::Global;
 
@@ -52,10 +53,19 @@ fn tokens(heap: Global, src: &[u8]) -> Answer
     }
 }
 
+// Numbers as the values of an answer.
+fn numbers(heap: Global, all: &[usize]) -> Answer {
+    let mut values = Vec::new(heap);
+    for n in all {
+        if values.push(Value::Number(*n)).is_err() {
+            return Err(Setback::Trouble(Trouble::NoMemory));
+        }
+    }
+    Ok(values)
+}
+
 // The place behind the object at the start.
-fn object(heap: Global, src: &[u8]) -> Answer
-    ensures { ObjectTold src.now result }
-{
+fn object(heap: Global, src: &[u8]) -> Answer {
     match object_at(src, 0) {
         Ok(extent) => numbers(heap, &[extent.end]),
         Err(fault) => Err(Setback::Fault(fault)),
@@ -73,22 +83,23 @@ fn body(heap: Global, src: &[u8]) -> Answer
 }
 
 // The object in the file that starts with the bytes, with places counted from `place`.
-fn frame(heap: Global, place: usize, src: &[u8]) -> Answer
-    ensures { FrameTold place src.now result }
-{
-    if place > MOST_PLACE || src.len() > usize::MAX - place {
+fn frame(heap: Global, place: usize, src: &[u8]) -> Answer {
+    if place > MOST_PLACE {
         return Err(Setback::Trouble(Trouble::BadPlace));
     }
-    match read_frame_at(place, src) {
+    match read_frame(src) {
         Ok(read) => numbers(
             heap,
             &[
                 read.number as usize,
                 read.generation as usize,
-                read.start,
-                read.end,
+                place.saturating_add(read.start),
+                place.saturating_add(read.end),
             ],
         ),
-        Err(fault) => Err(Setback::Fault(fault)),
+        Err(fault) => Err(Setback::Fault(Fault {
+            place: place.saturating_add(fault.place),
+            ..fault
+        })),
     }
 }

@@ -13,7 +13,6 @@ pub enum Trouble {
     BadPlace,
     NoStore,
     OverlaysFull,
-    BookOpen,
     NoMemory,
 }
 
@@ -30,7 +29,6 @@ impl Trouble {
             Trouble::BadBytes => "bytes are pairs of lower-case hex digits",
             Trouble::NoStore => "there is no store",
             Trouble::OverlaysFull => "there are two overlays already",
-            Trouble::BookOpen => "the book is open",
             Trouble::NoMemory => "there is too little memory",
         }
     }

@@ -1,11 +1,12 @@
 -- How many bytes the pieces are.
-use Rattle.std.proofs.Common.{◌≡◌, ℕ, ◌+◌, ◌*◌, ◌^◌, ◌<◌, ◌≤◌, List, [], ◌∷◌, ◌++◌, length, Some, codes, arith, length-append}
+use Rattle.std.proofs.Common.{◌≡◌, ℕ, suc, ◌+◌, ◌*◌, ◌^◌, ◌<◌, ◌≤◌, List, [], ◌∷◌, ◌++◌, length, Some, codes, refl, ap, ◌∙◌, arith, length-append}
 use Rattle.format.specs.Bytes.{Bytes}
 use Rattle.format.specs.Lines.{Slot}
 use Rattle.format.specs.Writing.{decimal, framed_bytes, prev_bytes, Run, run_on, slots_on}
 use Rattle.locality.proofs.Written.{framed_length}
 use Rattle.sections.proofs.Entries.{slots_on_length}
-use Rattle.writer.specs.Pieces.{pair_bytes, size_bytes, close_bytes, line_bytes}
+use Rattle.writer.specs.declared.entry.Entry.{Entry}
+use Rattle.writer.specs.Pieces.{slots_of, pair_bytes, size_bytes, close_bytes, line_bytes}
 use Rattle.writer.proofs.Decimals.{decimal_length}
 
 -- an object is at most 34 bytes more than its body
@@ -71,3 +72,16 @@ spaced_length n = length-append (decimal n) (codes " ")
 -- a number and ` obj` LF
 pub opened_length : (n : ℕ) → length (decimal n ++ codes " obj\n") ≡ length (decimal n) + 5
 opened_length n = length-append (decimal n) (codes " obj\n")
+
+-- there are as many entries in the format's form
+pub slots_count : (es : List Entry) → length (slots_of es) ≡ length es
+slots_count [] = refl
+slots_count (e ∷ es) = ap suc (slots_count es)
+
+-- entries are 20 bytes each
+pub entries_length : (es : List Entry) → length (slots_on (slots_of es) []) ≡ 20 * length es
+entries_length es = let a = slots_on_length (slots_of es) [] in let b = slots_count es in omega arith
+
+-- a run of entries is its line and 20 bytes an entry
+pub run_of_length : (first : ℕ) (es : List Entry) → length (run_on (first, slots_of es) []) ≡ length (line_bytes first (length es)) + 20 * length es
+run_of_length first es = run_length first (slots_of es) ∙ ap (λ n. length (line_bytes first n) + 20 * n) (slots_count es)

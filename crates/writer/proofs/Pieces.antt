@@ -1,12 +1,39 @@
 -- How the pieces of a section hang together.
-use Rattle.std.proofs.Common.{◌≡◌, ℕ, Bool, true, false, cond, List, [], ◌∷◌, ◌++◌, length, codes, Option, sym, refl, ap, ◌∙◌, append_assoc}
+use Rattle.std.proofs.Common.{◌≡◌, ℕ, zero, suc, ◌+◌, ◌<◌, Bool, true, false, cond, List, [], ◌∷◌, ◌++◌, map, length, get_or, take, codes, sym, refl, ap, ◌∙◌, append_assoc, append-nil, add-one, arith}
 use Rattle.format.specs.Bytes.{Bytes}
 use Rattle.format.specs.Lines.{Slot}
-use Rattle.format.specs.Objects.{Entries, Obj, more_entries}
 use Rattle.format.specs.Writing.{decimal, padded, framed_bytes, mark_of, slot_bytes, slots_on, Run, run_on, runs_on, is_rewritten, copied, prev_bytes, section_bytes}
 use Rattle.sections.proofs.Digits.{padded_++}
 use Rattle.sections.proofs.Entries.{runs_on_++}
-use Rattle.writer.specs.Pieces.{pair_bytes, size_bytes, close_bytes, line_bytes}
+use Rattle.writer.specs.declared.entry.Entry.{Entry}
+use Rattle.writer.specs.Parts.{SectionParts, RunsParts, CopiedParts, Parts}
+use Rattle.writer.specs.Pieces.{slot_of, slots_of, pair_bytes, size_bytes, close_bytes, line_bytes}
+use Rattle.writer.proofs.Lengths.{slots_count}
+
+-- entries, and then others
+pub slots_then : (ss ts : List Slot) (ys : Bytes) → slots_on (ss ++ ts) ys ≡ slots_on ss [] ++ slots_on ts ys
+unfolding slots_on
+slots_then [] ts ys = refl
+slots_then (s ∷ ss) ts ys = ap (λ zs. slot_bytes s ++ zs) (slots_then ss ts ys) ∙ sym (append_assoc (slot_bytes s) (slots_on ss []) (slots_on ts ys))
+
+slots_step : (d : Entry) (es : List Entry) (i : ℕ) → i < length es →
+    slots_on (slots_of (take (suc i) es)) [] ≡ slots_on (slots_of (take i es)) [] ++ slot_bytes (slot_of (get_or es i d))
+unfolding slots_on
+slots_step d [] i h = absurd (omega arith)
+slots_step d (e ∷ es) zero h = append-nil (slot_bytes (slot_of e))
+slots_step d (e ∷ es) (suc i) h =
+    ap (λ zs. slot_bytes (slot_of e) ++ zs) (slots_step d es i (omega arith))
+    ∙ sym (append_assoc (slot_bytes (slot_of e)) (slots_on (slots_of (take i es)) []) (slot_bytes (slot_of (get_or es i d))))
+
+-- one entry more
+pub slots_more : (es : List Entry) (i : ℕ) (d : Entry) → i < length es →
+    slots_on (slots_of (take (i + 1) es)) [] ≡ slots_on (slots_of (take i es)) [] ++ slot_bytes (slot_of (get_or es i d))
+slots_more es i d h = rw (add-one i) (slots_step d es i h)
+
+-- no entries
+pub slots_none : slots_on [] [] ≡ []
+unfolding slots_on
+slots_none = refl
 
 -- the mark of an entry
 pub mark_is : (b : Bool) → cond b 110 102 ≡ mark_of b
@@ -42,11 +69,12 @@ run_parts first ss =
     append_assoc (decimal first) (32 ∷ (decimal (length ss) ++ (10 ∷ []))) (slots_on ss [])
     ∙ ap (λ zs. decimal first ++ (32 ∷ zs)) (append_assoc (decimal (length ss)) (10 ∷ []) (slots_on ss []))
 
+-- the same of entries
+pub run_of_parts : (first : ℕ) (es : List Entry) → line_bytes first (length es) ++ slots_on (slots_of es) [] ≡ run_on (first, slots_of es) []
+run_of_parts first es = ap (λ n. line_bytes first n ++ slots_on (slots_of es) []) (sym (slots_count es)) ∙ run_parts first (slots_of es)
+
 -- a section is its pieces, one behind the other
-pub section_parts : (at : ℕ) (rs : List Run) (es : Entries) (size : ℕ) (prev : Option ℕ) →
-    section_bytes at rs es size prev
-    ≡ codes "xref\n"
-    ++ (runs_on rs [] ++ (codes "trailer\n<<\n" ++ (copied es ++ (size_bytes size ++ (prev_bytes prev ++ close_bytes at)))))
+pub section_parts : SectionParts
 unfolding section_bytes close_bytes
 section_parts at rs es size prev =
     let back = close_bytes at in
@@ -56,16 +84,17 @@ section_parts at rs es size prev =
     ∙ ap (λ zs. codes "xref\n" ++ zs) (sym (runs_on_++ rs [] rest))
 
 -- runs are one behind the other
-pub runs_parts : (r : Run) (rs : List Run) → runs_on (r ∷ rs) [] ≡ run_on r [] ++ runs_on rs []
+pub runs_parts : RunsParts
 unfolding runs_on
 runs_parts r rs = sym (runs_on_++ (r ∷ []) [] (runs_on rs []))
 
 -- an entry of the previous trailer is copied, unless it is written anew
-pub copied_parts : (k kb vb : Bytes) (o : Obj) (es : Entries) →
-    (is_rewritten k ≡ false → copied (more_entries k kb vb o es) ≡ pair_bytes kb vb ++ copied es)
-    × (is_rewritten k ≡ true → copied (more_entries k kb vb o es) ≡ copied es)
+pub copied_parts : CopiedParts
 unfolding copied pair_bytes
 copied_parts k kb vb o es = (
   λ e. rw (e, copied) (sym (append_assoc kb (32 ∷ (vb ++ (10 ∷ []))) (copied es) ∙ ap (λ zs. kb ++ (32 ∷ zs)) (append_assoc vb (10 ∷ []) (copied es)))),
   λ e. rw (e, copied) refl,
 )
+
+pub parts : Parts
+parts = (section_parts, runs_parts, copied_parts)

@@ -1,10 +1,4 @@
 pub mod Drafts
 pub mod Pieces
-pub mod Changes
-pub mod Helds
-pub mod Tables
-pub mod Planned
-pub mod Plans
-pub mod Listing
-pub mod Trailers
-pub mod Writers
+pub mod Parts
+pub mod Bounds

@@ -1,7 +1,16 @@
 -- The pieces of a section that have no name of their own in the format.
-use Rattle.std.specs.Prelude.{ℕ, [], ◌∷◌, ◌++◌, codes}
+use Rattle.std.specs.Prelude.{ℕ, List, [], ◌∷◌, ◌++◌, map, codes}
 use Rattle.format.specs.Bytes.{Bytes}
+use Rattle.format.specs.Lines.{Slot}
 use Rattle.format.specs.Writing.{decimal}
+use Rattle.writer.specs.declared.entry.Entry.{Entry}
+
+-- an entry, as the format has it
+abbrev pub slot_of : Entry → Slot
+slot_of e = record { in_use = e.in_use; field = e.field; gen = e.generation }
+
+abbrev pub slots_of : List Entry → List Slot
+slots_of es = map slot_of es
 
 -- a trailer's entry: key, space, value, LF
 unfoldable pub pair_bytes : Bytes → Bytes → Bytes

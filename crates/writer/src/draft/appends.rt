@@ -1,5 +1,5 @@
 // Making a draft, asking it, and appending bytes to it.
-ghost use Rattle.std.specs.Prelude.{◌≡◌, [], ◌∷◌, length, IfOk};
+ghost use Rattle.std.specs.Prelude.{◌≡◌, ◌-◌, [], ◌∷◌, length, IfOk};
 ghost use Rattle.writer.specs.Drafts.{Adds, Room, count, limit_of, written};
 
 use super::Draft;
@@ -28,6 +28,13 @@ impl Draft {
         ensures { result ≡ count self.now }
     {
         self.bytes.len()
+    }
+
+    // For how many more bytes there is room.
+    pub fn left(&self) -> usize
+        ensures { result ≡ limit_of self.now - count self.now }
+    {
+        self.limit - self.bytes.len()
     }
 
     // The bytes written.

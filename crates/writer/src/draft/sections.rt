@@ -1,12 +1,11 @@
 // Cross-reference sections and their trailers.
-ghost use Rattle.std.specs.Prelude.{◌≡◌, ◌+◌, ◌^◌, ◌<◌, cond, [], ◌∷◌, ◌++◌, length, Some, codes};
-ghost use Rattle.format.specs.Writing.{padded, prev_bytes, slot_bytes};
+ghost use Rattle.std.specs.Prelude.{◌≡◌, ◌+◌, ◌*◌, ◌^◌, ◌<◌, cond, [], ◌∷◌, ◌++◌, length, Some, codes};
+ghost use Rattle.format.specs.Writing.{padded, prev_bytes, run_on, slot_bytes, slots_on};
 ghost use Rattle.writer.specs.Drafts.{Adds, Room};
-ghost use Rattle.entries.specs.Rows.{slot_of};
-ghost use Rattle.writer.specs.Pieces.{close_bytes, line_bytes, pair_bytes, size_bytes};
+ghost use Rattle.writer.specs.Pieces.{close_bytes, line_bytes, pair_bytes, size_bytes, slot_of, slots_of};
 
 use super::Draft;
-use entries::entry::Entry;
+use crate::entry::Entry;
 
 // `n` for an entry in use, `f` for a free one.
 fn mark(in_use: bool) -> u8
@@ -53,6 +52,16 @@ impl Draft {
         self.text(b" \n");
     }
 
+    // Entries, one behind the other.
+    pub fn entries(&mut self, all: &[Entry])
+        requires { Room self.old (20 * length all.now) }
+        ensures { Adds self.old (slots_on (slots_of all.now) []) self.new }
+    {
+        for one in all {
+            self.entry(*one);
+        }
+    }
+
     // The line above a run: its first number, and how many there are.
     pub fn run_line(&mut self, first: u32, count: u64)
         requires small { count < 10 ^ 10 }
@@ -61,6 +70,16 @@ impl Draft {
     {
         self.number(b"", first as u64, b" ");
         self.number(b"", count, b"\n");
+    }
+
+    // A run: its line and its entries.
+    pub fn run(&mut self, first: u32, all: &[Entry])
+        requires small { length all.now < 10 ^ 10 }
+        requires room { Room self.old (length (run_on (first, slots_of all.now) [])) }
+        ensures { Adds self.old (run_on (first, slots_of all.now) []) self.new }
+    {
+        self.run_line(first, all.len() as u64);
+        self.entries(all);
     }
 
     // The lines above a trailer's entries.

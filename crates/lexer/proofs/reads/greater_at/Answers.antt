@@ -8,7 +8,7 @@ returns-then-at-src c = record { is = greater_cut _ _ c.if-at-src.true; takes = 
 pub returns-then-src-at-eq62 : goal.returns-then-src-at-eq62
 returns-then-src-at-eq62 c =
     let more : c.args.at + 1 < length c.args.src.now = omega arith in
-    record { is = greater_dict _ _ more c.if-src-at-eq62.true; takes = (omega arith, omega arith, tt) }
+    record { is = greater_dict _ _ more c.if-src-at-eq62.true; takes = (omega arith, omega arith) }
 
 pub returns-else-src-at-eq62 : goal.returns-else-src-at-eq62
 returns-else-src-at-eq62 c =

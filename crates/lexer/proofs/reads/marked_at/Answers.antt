@@ -34,14 +34,14 @@ pub returns-then-b-eq91 : goal.returns-then-b-eq91
 returns-then-b-eq91 c =
     record {
       is = one_byte_fact _ _ _ (on_open _ _ _ c.if-b-eq47.false c.if-b-eq40.false c.if-b-eq60.false c.if-b-eq62.false c.if-b-eq91.true);
-      takes = (omega arith, omega arith, tt);
+      takes = (omega arith, omega arith);
     }
 
 pub returns-then-b-eq93 : goal.returns-then-b-eq93
 returns-then-b-eq93 c =
     record {
       is = one_byte_fact _ _ _ (on_close _ _ _ c.if-b-eq47.false c.if-b-eq40.false c.if-b-eq60.false c.if-b-eq62.false c.if-b-eq91.false c.if-b-eq93.true);
-      takes = (omega arith, omega arith, tt);
+      takes = (omega arith, omega arith);
     }
 
 pub returns-else-b-eq93 : goal.returns-else-b-eq93

@@ -1,4 +1,4 @@
-use Rattle.std.proofs.Common.{◌≡◌, ◌+◌, ◌<◌, ◌≤◌, true, false, length, get_or, sym, refl, ap, ◌∙◌, arith, w32, SFits, rules}
+use Rattle.std.proofs.Common.{◌≡◌, ◌+◌, ◌<◌, ◌≤◌, true, false, length, get_or, sym, ap, ◌∙◌, arith, w32, SFits, rules}
 use Rattle.std.proofs.lemmas.Int.{to_z-of_z}
 use Rattle.format.specs.Tokens.{int, numeral_kind}
 use Rattle.lexer.proofs.Starts.{flawed_parts, run_reads, word_kind, number_kind}
@@ -9,7 +9,7 @@ returns-then-not-starts-number c =
     let told = c.run-end-to.ensures in
     record {
       is = run_reads _ _ _ _ c.requires told.low told.is (word_kind _ _ _ (sym c.if-not-starts-number.ensures));
-      takes = (omega arith, c.run-end-to.ensures.high (omega arith), (refl, refl));
+      takes = (omega arith, omega arith);
     }
 
 pub returns-in-Unsigned : goal.returns-in-Unsigned
@@ -18,7 +18,7 @@ returns-in-Unsigned c =
     let told = c.run-end-to.ensures in
     record {
       is = run_reads _ _ _ _ c.requires told.low told.is (number_kind _ _ _ (sym c.if-not-starts-number.ensures) c.in-Unsigned.ensures);
-      takes = (omega arith, c.run-end-to.ensures.high (omega arith), tt);
+      takes = (omega arith, omega arith);
     }
 
 pub returns-in-Fraction : goal.returns-in-Fraction
@@ -27,7 +27,7 @@ returns-in-Fraction c =
     let told = c.run-end-to.ensures in
     record {
       is = run_reads _ _ _ _ c.requires told.low told.is (number_kind _ _ _ (sym c.if-not-starts-number.ensures) c.in-Fraction.ensures);
-      takes = (omega arith, c.run-end-to.ensures.high (omega arith), (refl, refl));
+      takes = (omega arith, omega arith);
     }
 
 pub returns-in-PastBound : goal.returns-in-PastBound
@@ -57,5 +57,5 @@ returns-in-Signed c =
       is =
           run_reads _ _ _ _ c.requires told.low told.is
           (number_kind _ _ _ (sym c.if-not-starts-number.ensures) c.in-Signed.ensures ∙ ap (int false) (sym (to_z-of_z w32 c.in-Signed.z fits)));
-      takes = (omega arith, c.run-end-to.ensures.high (omega arith), tt);
+      takes = (omega arith, omega arith);
     }

@@ -1,4 +1,4 @@
-use Rattle.std.proofs.Common.{◌≡◌, sym, refl, arith}
+use Rattle.std.proofs.Common.{◌≡◌, sym, arith}
 use Rattle.format.specs.Tokens.{text, stray}
 use Rattle.lexer.proofs.Starts.{flawed_parts, string_closed, string_unclosed, string_deep, string_is}
 use Rattle.lexer.proofs.reads.text_at.Goals as goal
@@ -6,7 +6,7 @@ use Rattle.lexer.proofs.reads.text_at.Goals as goal
 pub returns-in-Closed : goal.returns-in-Closed
 returns-in-Closed c =
     let told = c.in-Closed.ensures in
-    record { is = string_closed text (λ q. stray) _ _ c.requires _ _ (string_is _ _ told.is); takes = (told.within.0, told.within.1, (refl, refl)) }
+    record { is = string_closed text (λ q. stray) _ _ c.requires _ _ (string_is _ _ told.is); takes = told.within }
 
 pub returns-in-Unclosed : goal.returns-in-Unclosed
 returns-in-Unclosed c =

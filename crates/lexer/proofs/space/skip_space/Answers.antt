@@ -7,7 +7,7 @@ use Rattle.lexer.proofs.space.skip_space.Goals.{then-comment, else-comment+then-
 pub loop-at-preserved : goal.loop-at-preserved
 loop-at-preserved c = (
   omega arith,
-  λ h. omega arith,
+  omega arith,
   elim c.if-comment.branch [
     | then-comment w ↦ comment_more _ _ _ _ _ w.if-comment.true w.comment-is c.loop-at-test.true w.is-eol-comment.ensures c.loop-at.invariant.2
     | else-comment+then-not-is-white+else-b-ne37 w ↦ percent_more _ _ _ _ w.if-comment.false w.comment-is c.loop-at-test.true (sym w.if-not-is-white.ensures) w.if-b-ne37.false c.loop-at.invariant.2
@@ -16,7 +16,7 @@ loop-at-preserved c = (
 )
 
 pub returns-after-loop-at : goal.returns-after-loop-at
-returns-after-loop-at c = record { is = space_ends _ _ _ c.loop-at-test.false c.loop-at.invariant.2; low = omega arith; high = c.loop-at.invariant.1 }
+returns-after-loop-at c = record { is = space_ends _ _ _ c.loop-at-test.false c.loop-at.invariant.2; low = omega arith; high = omega arith }
 
 pub returns-then-b-ne37 : goal.returns-then-b-ne37
-returns-then-b-ne37 c = record { is = space_stops _ _ _ c.if-comment.false c.loop-at-test.true (sym c.if-not-is-white.ensures) c.if-b-ne37.true c.loop-at.invariant.2; low = omega arith; high = λ h. omega arith }
+returns-then-b-ne37 c = record { is = space_stops _ _ _ c.if-comment.false c.loop-at-test.true (sym c.if-not-is-white.ensures) c.if-b-ne37.true c.loop-at.invariant.2; low = omega arith; high = omega arith }

@@ -9,7 +9,7 @@ returns-then-at-src c =
     let space = c.skip-space-at.ensures in
     record {
       is = behind_space _ _ _ space.is ∙ ends_here _ _ c.if-at-src.true;
-      placed = record { starts = space.low; ends = omega arith; inside = space.high; moves = (c.if-at-src.true, refl); part = tt };
+      placed = record { starts = space.low; ends = omega arith; inside = space.high; moves = (c.if-at-src.true, c.if-at-src.true) };
     }
 
 pub returns-in-Ok : goal.returns-in-Ok
@@ -20,7 +20,7 @@ returns-in-Ok c =
     let byte = took_byte _ _ _ told.takes.0 in
     record {
       is = behind_space _ _ _ space.is ∙ as_dropped _ _ _ _ here told.is;
-      placed = record { starts = space.low; ends = omega (arith, byte); inside = λ h. told.takes.1; moves = took_moves _ _ _ _ told.takes.0; part = told.takes.2 };
+      placed = record { starts = space.low; ends = omega (arith, byte); inside = told.takes.1; moves = took_moves _ _ _ _ told.takes.0 };
     }
 
 pub returns-in-Err : goal.returns-in-Err

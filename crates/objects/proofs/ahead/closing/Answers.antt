@@ -9,7 +9,7 @@ unfolding closes_array
 returns-in-CloseArray c =
     let told = c.in-Ok.ensures in
     let moves : c.in-Ok.found.from < c.in-Ok.found.to = rw c.in-CloseArray.is at told.placed.moves in
-    (ap closes_array (found_kind _ _ _ told.is ∙ ap kind_of c.in-CloseArray.is), found_ends _ _ _ told.is told.placed c.requires moves)
+    (ap closes_array (found_kind _ _ _ told.is ∙ ap kind_of c.in-CloseArray.is), found_ends _ _ _ told.is told.placed moves)
 
 pub returns-in-default : goal.returns-in-default
 returns-in-default c = ap closes_array (found_kind _ _ _ c.in-Ok.ensures.is) ∙ no_array_end _ c.in-default.not-CloseArray

@@ -11,7 +11,7 @@ unfolding next
 returns-in-CloseDict c =
     let told = c.in-Ok.ensures in
     let moves : c.in-Ok.found.from < c.in-Ok.found.to = rw c.in-CloseDict.is at told.placed.moves in
-    (found_next _ _ _ told.is ∙ ap (λ t. next c.in-Ok.found.from (kind_of t)) c.in-CloseDict.is, found_ends _ _ _ told.is told.placed c.requires moves)
+    (found_next _ _ _ told.is ∙ ap (λ t. next c.in-Ok.found.from (kind_of t)) c.in-CloseDict.is, found_ends _ _ _ told.is told.placed moves)
 
 pub returns-in-Name : goal.returns-in-Name
 unfolding next
@@ -19,7 +19,7 @@ returns-in-Name c =
     let told = c.in-Ok.ensures in
     let moves : c.in-Ok.found.from < c.in-Ok.found.to = rw c.in-Name.is at told.placed.moves in (
       found_next _ _ _ told.is ∙ ap (λ t. next c.in-Ok.found.from (kind_of t)) c.in-Name.is,
-      found_ends _ _ _ told.is told.placed c.requires moves,
+      found_ends _ _ _ told.is told.placed moves,
       found_from _ _ _ told.is,
       moves,
     )

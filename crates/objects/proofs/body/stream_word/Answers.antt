@@ -10,7 +10,7 @@ returns-then-same-bytes c =
     let moves : c.in-Ok.found.from < c.in-Ok.found.to = rw c.in-Word.is at told.placed.moves in (
       the_word_fact _ _ _ (found_kind _ _ _ told.is ∙ ap kind_of c.in-Word.is) ∙ sym c.if-same-bytes.ensures,
       found_from _ _ _ told.is,
-      found_ends _ _ _ told.is told.placed c.requires moves,
+      found_ends _ _ _ told.is told.placed moves,
     )
 
 pub returns-else-same-bytes : goal.returns-else-same-bytes

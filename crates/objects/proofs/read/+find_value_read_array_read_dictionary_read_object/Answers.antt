@@ -1,11 +1,10 @@
-use Rattle.std.proofs.Common.{◌≡◌, ℕ, ◌<◌, ◌≤◌, true, false, length, drop, is_some, Err, sym, ap, ◌∙◌, arith}
+use Rattle.std.proofs.Common.{◌≡◌, ℕ, ◌<◌, ◌≤◌, true, false, length, drop, is_some, sym, ap, ◌∙◌, arith}
 use Rattle.format.specs.Bytes.{Bytes}
 use Rattle.format.specs.Space.{skip}
 use Rattle.format.specs.Strings.{turns}
 use Rattle.lexer.specs.Spelled.{spelled}
 use Rattle.objects.specs.Steps.{token_in, EndsAt}
-use Rattle.std.proofs.lemmas.Result.{err_from_is_err_and}
-use Rattle.objects.proofs.Cases.{not_both, handed_up, seen_handed}
+use Rattle.objects.proofs.Cases.{not_both}
 use Rattle.objects.proofs.Turns.{elements_all, elements_close, elements_more, elements_fail, Fresh, entered_close, entered_refuse, entered_again, entered_fail, entered_more, walking_stops, walking_closes, walking_refuses, walking_fails, walking_finds, walking_more}
 use Rattle.objects.proofs.Nested.{whole_read, refused_read, array_deep, array_read, array_bad, dict_deep, dict_read, dict_bad}
 use Rattle.objects.proofs.read.+find_value_read_array_read_dictionary_read_object.Goals as goal
@@ -22,14 +21,12 @@ read-array-returns-in-Some t c =
 
 pub read-array-elements-preserved : goal.read-array-elements-preserved
 read-array-elements-preserved t c =
-    let told = c.in-ok-element.ensures in
+    let told = c.in-Ok.ensures in
     (omega arith, told.within.1, elements_more _ _ _ _ c.elements.invariant.1 _ _ c.in-None.ensures told.is told.within.0 c.elements.invariant.2)
 
-pub read-array-returns-in-err-element : goal.read-array-returns-in-err-element
-read-array-returns-in-err-element t c =
-    let p = err_from_is_err_and c.from-residual.result c.from-residual.ensures.1 in
-    let z : c.from-residual.result ≡ Err c.in-err-element.field-0.0 = cc in
-    record { is = handed_up _ _ _ _ z (elements_fail _ _ _ _ c.elements.invariant.1 _ c.in-None.ensures c.in-err-element.ensures.is c.elements.invariant.2); within = rw z tt }
+pub read-array-returns-in-Err : goal.read-array-returns-in-Err
+read-array-returns-in-Err t c =
+    record { is = elements_fail _ _ _ _ c.elements.invariant.1 _ c.in-None.ensures c.in-Err.ensures.is c.elements.invariant.2; within = tt }
 
 pub read-object-returns-then-depth-eq0 : goal.read-object-returns-then-depth-eq0
 read-object-returns-then-depth-eq0 t c = record { is = rw c.met.ensures (array_deep _ _ _ _ _ _ c.in-Array.ensures.0 c.if-depth-eq0.true); within = tt }
@@ -45,33 +42,29 @@ read-object-returns-in-Whole t c =
 pub read-object-returns-in-Refused : goal.read-object-returns-in-Refused
 read-object-returns-in-Refused t c = record { is = refused_read _ _ _ _ _ c.in-Refused.ensures; within = tt }
 
-pub read-object-returns-in-ok-end : goal.read-object-returns-in-ok-end
-read-object-returns-in-ok-end t c =
+pub read-object-returns-in-Ok : goal.read-object-returns-in-Ok
+read-object-returns-in-Ok t c =
     let start = c.in-Array.ensures in
-    let told = c.in-ok-end.ensures in
+    let told = c.in-Ok.ensures in
     let low = start.1 in
     let further = told.within.0 in
     record { is = array_read _ _ _ _ _ start.0 _ _ c.if-depth-eq0.false told.is; within = (omega arith, told.within.1) }
 
-pub read-object-returns-in-err-end : goal.read-object-returns-in-err-end
-read-object-returns-in-err-end t c =
-    let p = err_from_is_err_and c.from-residual.result c.from-residual.ensures.1 in
-    let z : c.from-residual.result ≡ Err c.in-err-end.field-0.0 = cc in
-    record { is = seen_handed _ _ _ _ z (array_bad _ _ _ _ _ c.in-Array.ensures.0 _ _ c.if-depth-eq0.false c.in-err-end.ensures.is); within = rw z tt }
+pub read-object-returns-in-Err : goal.read-object-returns-in-Err
+read-object-returns-in-Err t c =
+    record { is = array_bad _ _ _ _ _ c.in-Array.ensures.0 _ _ c.if-depth-eq0.false c.in-Err.ensures.is; within = tt }
 
-pub read-object-returns-in-ok-end-2 : goal.read-object-returns-in-ok-end-2
-read-object-returns-in-ok-end-2 t c =
+pub read-object-returns-in-Ok-read-dictionary : goal.read-object-returns-in-Ok-read-dictionary
+read-object-returns-in-Ok-read-dictionary t c =
     let start = c.in-Dictionary.ensures in
-    let told = c.in-ok-end-2.ensures in
+    let told = c.in-Ok-read-dictionary.ensures in
     let low = start.1 in
     let further = told.within.0 in
     record { is = dict_read _ _ _ _ _ start.0 _ _ c.if-depth-eq0-2.false told.is; within = (omega arith, told.within.1) }
 
-pub read-object-returns-in-err-end-2 : goal.read-object-returns-in-err-end-2
-read-object-returns-in-err-end-2 t c =
-    let p = err_from_is_err_and c.from-residual-in-err-end-2.result c.from-residual-in-err-end-2.ensures.1 in
-    let z : c.from-residual-in-err-end-2.result ≡ Err c.in-err-end-2.field-0.0 = cc in
-    record { is = seen_handed _ _ _ _ z (dict_bad _ _ _ _ _ c.in-Dictionary.ensures.0 _ _ c.if-depth-eq0-2.false c.in-err-end-2.ensures.is); within = rw z tt }
+pub read-object-returns-in-Err-read-dictionary : goal.read-object-returns-in-Err-read-dictionary
+read-object-returns-in-Err-read-dictionary t c =
+    record { is = dict_bad _ _ _ _ _ c.in-Dictionary.ensures.0 _ _ c.if-depth-eq0-2.false c.in-Err-read-dictionary.ensures.is; within = tt }
 
 -- the white space behind a key
 behind_key : (src : Bytes) (p q v : ℕ) → EndsAt src p q → skip false q (drop q src) ≡ (v, drop v src) → skip false (token_in src p).to (token_in src p).rest ≡ (v, drop v src)
@@ -99,7 +92,7 @@ read-dictionary-returns-then-is-some t c =
 pub read-dictionary-entries-preserved : goal.read-dictionary-entries-preserved
 read-dictionary-entries-preserved t c =
     let key = c.in-Key.ensures in
-    let told = c.in-ok-extent.ensures in
+    let told = c.in-Ok.ensures in
     let low = key.1.low in
     let mid = c.skip-space-value.ensures.low in
     let far = told.within.0 in
@@ -113,10 +106,8 @@ read-dictionary-entries-preserved t c =
       entered_more _ _ _ _ _ _ c.entries.invariant.1 _ key.0 (omega arith) fresh _ (behind_key _ _ _ _ key.1 c.skip-space-value.ensures.is) _ _ told.is (omega arith) c.entries.invariant.2,
     )
 
-pub read-dictionary-returns-in-err-extent : goal.read-dictionary-returns-in-err-extent
-read-dictionary-returns-in-err-extent t c =
-    let p = err_from_is_err_and c.from-residual.result c.from-residual.ensures.1 in
-    let z : c.from-residual.result ≡ Err c.in-err-extent.field-0.0 = cc in
+pub read-dictionary-returns-in-Err : goal.read-dictionary-returns-in-Err
+read-dictionary-returns-in-Err t c =
     let key = c.in-Key.ensures in
     let fresh : Fresh c.args.check c.args.depth c.args.src.now c.args.from c.entries.at (spelled c.in-Key.name.now) =
     elim c.if-check.branch [
@@ -124,8 +115,8 @@ read-dictionary-returns-in-err-extent t c =
       | read-dictionary-else-check w ↦ λ e. not_both c.args.check e w.if-check.false
     ] in
     record {
-      is = handed_up _ _ _ _ z (entered_fail _ _ _ _ _ _ c.entries.invariant.1 _ key.0 (omega arith) fresh _ (behind_key _ _ _ _ key.1 c.skip-space-value.ensures.is) _ c.in-err-extent.ensures.is c.entries.invariant.2);
-      within = rw z tt;
+      is = entered_fail _ _ _ _ _ _ c.entries.invariant.1 _ key.0 (omega arith) fresh _ (behind_key _ _ _ _ key.1 c.skip-space-value.ensures.is) _ c.in-Err.ensures.is c.entries.invariant.2;
+      within = tt;
     }
 
 pub find-value-returns-then-is-reached : goal.find-value-returns-then-is-reached

@@ -1,5 +1,3 @@
-use native.Mathlib.Nat.{min-eq_left}
-use Rattle.objects.proofs.References.{tries_at}
 use Rattle.std.proofs.Common.{◌≡◌, ℕ, ◌<◌, ◌≤◌, true, false, length, drop, ℤ, pos, Some, None, sym, refl, ap, ◌∙◌, arith, w32, w64, SFits, to_z, of_z, rules}
 use Rattle.std.proofs.lemmas.Int.{to_z-of_z}
 use Rattle.format.specs.Bytes.{Bytes, Got, ok, bad}
@@ -27,8 +25,7 @@ returns-in-Some c =
     let told = c.in-Ok.ensures in
     let moves : c.in-Ok.found.from < c.in-Ok.found.to = rw c.in-Unsigned.is at told.placed.moves in
     let starts = told.placed.starts in
-    let there = c.at-lexer.ensures.place ∙ min-eq_left (told.placed.inside c.requires) in
-    let found = tries_at _ _ _ _ _ _ (Some c.in-Some.generation) c.at-lexer.ensures.src there c.in-Some.ensures.is in
+    let found = c.in-Some.ensures.is in
     let low = found.1 in (
       (λ A D.
           ap shaped (found_one _ _ _ told.is A D)
@@ -44,13 +41,12 @@ unfolding of_token trial tried
 returns-in-None c =
     let told = c.in-Ok.ensures in
     let moves : c.in-Ok.found.from < c.in-Ok.found.to = rw c.in-Unsigned.is at told.placed.moves in
-    let there = c.at-lexer.ensures.place ∙ min-eq_left (told.placed.inside c.requires) in
-    let tried-for = tries_at _ _ _ _ _ _ None c.at-lexer.ensures.src there c.in-None.ensures.is in
+    let tried-for = c.in-None.ensures.is in
     let stays = tried-for.1 in
     let fits : SFits w64 c.whole.result = search rules in
     let value = to_z-of_z w64 c.whole.result fits ∙ c.whole.ensures in
     let starts = told.placed.starts in
-    let inside = told.placed.inside c.requires in (
+    let inside = told.placed.inside in (
       (λ A D.
           ap shaped (found_one _ _ _ told.is A D)
           ∙ ap (λ t. shaped (of_token (A c.in-Ok.found.from) (D c.in-Ok.found.from) (kind_of t) (found_token c.args.src.now c.in-Ok.found))) c.in-Unsigned.is
@@ -70,7 +66,7 @@ returns-in-Signed c =
     let fits : SFits w64 c.signed.result = search rules in
     let fits-z : SFits w32 c.in-Signed.z = search rules in
     let value = to_z-of_z w64 c.signed.result fits ∙ c.signed.ensures ∙ to_z-of_z w32 c.in-Signed.z fits-z in
-    let at = further _ _ _ _ told.placed.starts moves (told.placed.inside c.requires) in (
+    let at = further _ _ _ _ told.placed.starts moves told.placed.inside in (
       (λ A D.
           ap shaped (found_one _ _ _ told.is A D)
           ∙ ap (λ t. shaped (of_token (A c.in-Ok.found.from) (D c.in-Ok.found.from) (kind_of t) (found_token c.args.src.now c.in-Ok.found))) c.in-Signed.is
@@ -85,7 +81,7 @@ unfolding of_token
 returns-in-Real c =
     let told = c.in-Ok.ensures in
     let moves : c.in-Ok.found.from < c.in-Ok.found.to = rw c.in-Real.is at told.placed.moves in
-    let at = further _ _ _ _ told.placed.starts moves (told.placed.inside c.requires) in (
+    let at = further _ _ _ _ told.placed.starts moves told.placed.inside in (
       (λ A D.
           ap shaped (found_one _ _ _ told.is A D)
           ∙ ap (λ t. shaped (of_token (A c.in-Ok.found.from) (D c.in-Ok.found.from) (kind_of t) (found_token c.args.src.now c.in-Ok.found))) c.in-Real.is),
@@ -99,7 +95,7 @@ unfolding of_token
 returns-in-Name c =
     let told = c.in-Ok.ensures in
     let moves : c.in-Ok.found.from < c.in-Ok.found.to = rw c.in-Name.is at told.placed.moves in
-    let at = further _ _ _ _ told.placed.starts moves (told.placed.inside c.requires) in (
+    let at = further _ _ _ _ told.placed.starts moves told.placed.inside in (
       (λ A D.
           ap shaped (found_one _ _ _ told.is A D)
           ∙ ap (λ t. shaped (of_token (A c.in-Ok.found.from) (D c.in-Ok.found.from) (kind_of t) (found_token c.args.src.now c.in-Ok.found))) c.in-Name.is),
@@ -113,7 +109,7 @@ unfolding of_token
 returns-in-Text c =
     let told = c.in-Ok.ensures in
     let moves : c.in-Ok.found.from < c.in-Ok.found.to = rw c.in-Text.is at told.placed.moves in
-    let at = further _ _ _ _ told.placed.starts moves (told.placed.inside c.requires) in (
+    let at = further _ _ _ _ told.placed.starts moves told.placed.inside in (
       (λ A D.
           ap shaped (found_one _ _ _ told.is A D)
           ∙ ap (λ t. shaped (of_token (A c.in-Ok.found.from) (D c.in-Ok.found.from) (kind_of t) (found_token c.args.src.now c.in-Ok.found))) c.in-Text.is),
@@ -127,7 +123,7 @@ unfolding of_token
 returns-in-Hex c =
     let told = c.in-Ok.ensures in
     let moves : c.in-Ok.found.from < c.in-Ok.found.to = rw c.in-Hex.is at told.placed.moves in
-    let at = further _ _ _ _ told.placed.starts moves (told.placed.inside c.requires) in (
+    let at = further _ _ _ _ told.placed.starts moves told.placed.inside in (
       (λ A D.
           ap shaped (found_one _ _ _ told.is A D)
           ∙ ap (λ t. shaped (of_token (A c.in-Ok.found.from) (D c.in-Ok.found.from) (kind_of t) (found_token c.args.src.now c.in-Ok.found))) c.in-Hex.is),
@@ -141,7 +137,7 @@ unfolding of_token
 returns-in-Some-word-shape c =
     let told = c.in-Ok.ensures in
     let moves : c.in-Ok.found.from < c.in-Ok.found.to = rw c.in-Word.is at told.placed.moves in
-    let at = further _ _ _ _ told.placed.starts moves (told.placed.inside c.requires) in
+    let at = further _ _ _ _ told.placed.starts moves told.placed.inside in
     let t = found_token c.args.src.now c.in-Ok.found in (
       (λ A D.
           ap shaped (found_one _ _ _ told.is A D)
@@ -172,7 +168,7 @@ unfolding of_token mark_obj
 returns-in-OpenArray c =
     let told = c.in-Ok.ensures in
     let moves : c.in-Ok.found.from < c.in-Ok.found.to = rw c.in-OpenArray.is at told.placed.moves in
-    let at = further _ _ _ _ told.placed.starts moves (told.placed.inside c.requires) in (
+    let at = further _ _ _ _ told.placed.starts moves told.placed.inside in (
       (λ A D.
           found_one _ _ _ told.is A D
           ∙ ap (λ t. of_token (A c.in-Ok.found.from) (D c.in-Ok.found.from) (kind_of t) (found_token c.args.src.now c.in-Ok.found)) c.in-OpenArray.is),
@@ -185,7 +181,7 @@ unfolding of_token mark_obj
 returns-in-OpenDict c =
     let told = c.in-Ok.ensures in
     let moves : c.in-Ok.found.from < c.in-Ok.found.to = rw c.in-OpenDict.is at told.placed.moves in
-    let at = further _ _ _ _ told.placed.starts moves (told.placed.inside c.requires) in (
+    let at = further _ _ _ _ told.placed.starts moves told.placed.inside in (
       (λ A D.
           found_one _ _ _ told.is A D
           ∙ ap (λ t. of_token (A c.in-Ok.found.from) (D c.in-Ok.found.from) (kind_of t) (found_token c.args.src.now c.in-Ok.found)) c.in-OpenDict.is),

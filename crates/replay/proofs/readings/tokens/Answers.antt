@@ -7,12 +7,12 @@ loop-found-preserved c =
     let ok : is_ok c.push.result ≡ true = c.if-is-err.ensures.negation in
     let items = simp ok at c.push.ensures.items in
     let told = c.in-Ok.ensures in (
-      told.placed.inside c.loop-found.invariant.0,
+      told.placed.inside,
       found_told _ _ _ _ c.in-Ok.found c.in-Some.sort c.loop-found.invariant.1 told.is (sym c.in-Some.ensures) items,
     )
 
 pub loop-found-smaller : goal.loop-found-smaller
-loop-found-smaller c = found_less _ _ c.in-Ok.found c.in-Some.sort (sym c.in-Some.ensures) c.in-Ok.ensures.placed c.loop-found.invariant.0
+loop-found-smaller c = found_less _ _ c.in-Ok.found c.in-Some.sort (sym c.in-Some.ensures) c.in-Ok.ensures.placed
 
 pub returns-in-None : goal.returns-in-None
 returns-in-None c = all_told _ _ _ c.in-Ok.found c.loop-found.invariant.1 c.in-Ok.ensures.is (sym c.in-None.ensures)
