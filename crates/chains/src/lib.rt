@@ -1,4 +1,6 @@
 // Chains of sections: the bytes up to a revision's end open as the revisions up to it, and what stands behind a file leaves its revisions as they are.
+#![tactic(auto)]
+
 ghost use Rattle.chains.specs.Stated.{LongerOpen, UpdatesOpen, EndsAscend};
 ghost use Rattle.format.specs.Theorems.{PrefixesOpen};
 

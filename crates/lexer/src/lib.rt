@@ -1,4 +1,6 @@
 // The readers of tokens over bytes in memory. None of them takes memory.
+#![tactic(auto)]
+
 pub mod bytes;
 mod flaw;
 mod hex;

@@ -1,4 +1,6 @@
 // What a reader took decides what it answers; the bytes behind do not matter, as far as they do not lengthen what was taken.
+#![tactic(auto)]
+
 pub mod reading;
 
 ghost use Rattle.locality.specs.Locality.{TokensAreLocal};

@@ -1,4 +1,6 @@
 // Readers of objects, dictionaries, streams and frames over bytes in memory. None of them takes memory.
+#![tactic(auto)]
+
 mod ahead;
 pub mod body;
 pub mod frame;

@@ -1,4 +1,6 @@
 // The test bench: runs the commands of the standard input, a line each, and answers each by a line.
+#![tactic(auto)]
+
 mod answer;
 mod bench;
 mod calls;

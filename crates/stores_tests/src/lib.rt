@@ -1,4 +1,6 @@
 // What callers of the stores can conclude, and examples that are run.
+#![tactic(auto)]
+
 ghost use Rattle.std.specs.Prelude.{◌≡◌, IfOk};
 ghost use Rattle.stores.specs.Overlays.{OverlayFits};
 
