@@ -8,6 +8,6 @@ returns c =
     let at = c.args.at in
     let whole = with_items_is c.args.memory.now c.lay.new.row (omega arith) in
     record {
-      laid = ap (take (at + length more)) whole ∙ c.lay.ensures ∙ ap (λ xs. take at xs ++ more) c.deref-mut.ensures.value;
+      laid = ap (take (at + length more)) whole ∙ c.lay.ensures ∙ ap (λ xs. take at xs ++ more) c.deref_mut.ensures.value;
       size = omega arith;
     }

@@ -6,9 +6,9 @@ pub loop-i-preserved : goal.loop-i-preserved
 loop-i-preserved g c =
     let xs = (g.Self.Store.meaning c.args.self.now).bytes in
     let h : c.args.from + c.loop-i.i < length xs = omega arith in
-    elim c.match-byte-at.branch [
+    elim c.match-byte_at.branch [
       | goal.in-Some w ↦ w.buffer-is ∙ filled_more xs c.args.from c.args.buffer.now c.loop-i.buffer c.loop-i.i w.in-Some.b c.loop-i.invariant (omega arith) h w.in-Some.ensures
-      | goal.in-default w ↦ absurd (window_never xs c.args.from c.loop-i.i h w.in-default.ensures)
+      | goal.in_default w ↦ absurd (window_never xs c.args.from c.loop-i.i h w.in_default.ensures)
     ]
 
 pub returns : goal.returns

@@ -4,8 +4,8 @@ use Rattle.stores.proofs.overlay.methods.OverlayStore.append.Goals as goal
 pub returns : goal.returns
 returns g c =
     let s = c.args.self.now in
-    let t = c.extend-tail.new.self in
-    let is = c.extend-tail.ensures in
+    let t = c.extend_tail.new.self in
+    let is = c.extend_tail.ensures in
     let front = take s.shown (g.S.Store.meaning s.below).bytes in
     record {
       appends = record {

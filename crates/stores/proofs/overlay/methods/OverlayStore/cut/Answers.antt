@@ -13,8 +13,8 @@ returns-then-n-base-2 g c =
     let s = c.args.self.now in
     let xs = (g.S.Store.meaning s.below).bytes in
     let long = row_length s.shown s.used xs s.tail (omega arith) in
-    let t = c.show-only.new.self in
-    let is = c.show-only.ensures in
+    let t = c.show_only.new.self in
+    let is = c.show_only.ensures in
     record {
       cuts = record {
         within = omega arith;
