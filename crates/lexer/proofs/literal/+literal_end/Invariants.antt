@@ -3,8 +3,8 @@ use Rattle.format.specs.Strings.{string_by}
 use Rattle.lexer.proofs.Literals.{Left}
 use Rattle.lexer.proofs.literal.+literal_end.Given as goal
 
-abbrev pub decreases-literal-end : goal.decreases-literal-end
-decreases-literal-end l = l.depth
+abbrev pub decreases-literal_end : goal.decreases-literal_end
+decreases-literal_end l = l.depth
 
 abbrev pub invariant-inside : goal.invariant-inside
 invariant-inside l =

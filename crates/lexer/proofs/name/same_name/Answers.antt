@@ -14,8 +14,8 @@ returns-then-j-b c =
     right_over (spelled_more _ _ l) (spelled_ends _ _ c.if-j-b.true) c.both.invariant.2
 
 pub returns-then-x-y : goal.returns-then-x-y
-returns-then-x-y c = same_differs _ _ _ _ c.spelled-byte-x.ensures.is c.spelled-byte-y.ensures.is c.if-x-y.true c.both.invariant.2
+returns-then-x-y c = same_differs _ _ _ _ c.spelled_byte-x.ensures.is c.spelled_byte-y.ensures.is c.if-x-y.true c.both.invariant.2
 
 pub both-preserved : goal.both-preserved
 both-preserved c =
-    (omega arith, omega arith, same_more _ _ _ _ c.spelled-byte-x.ensures.is c.spelled-byte-y.ensures.is c.if-x-y.false c.both.invariant.2)
+    (omega arith, omega arith, same_more _ _ _ _ c.spelled_byte-x.ensures.is c.spelled_byte-y.ensures.is c.if-x-y.false c.both.invariant.2)

@@ -16,12 +16,12 @@ returns-then-j-bytes c =
 pub returns-then-x-bytes : goal.returns-then-x-bytes
 returns-then-x-bytes c =
     let l : c.both.j < length c.args.bytes.now = omega arith in
-    same_differs _ _ _ _ c.spelled-byte-x.ensures.is (drop_more c.args.bytes.now c.both.j 0 l) c.if-x-bytes.true c.both.invariant.2
+    same_differs _ _ _ _ c.spelled_byte-x.ensures.is (drop_more c.args.bytes.now c.both.j 0 l) c.if-x-bytes.true c.both.invariant.2
 
 pub both-preserved : goal.both-preserved
 both-preserved c =
     let l : c.both.j < length c.args.bytes.now = omega arith in (
       omega arith,
       omega arith,
-      same_more _ _ _ _ c.spelled-byte-x.ensures.is (drop_more c.args.bytes.now c.both.j 0 l) c.if-x-bytes.false c.both.invariant.2,
+      same_more _ _ _ _ c.spelled_byte-x.ensures.is (drop_more c.args.bytes.now c.both.j 0 l) c.if-x-bytes.false c.both.invariant.2,
     )

@@ -4,27 +4,27 @@ use Rattle.std.proofs.lemmas.Bool.Decides.{nat_tests}
 use Rattle.format.specs.Bytes.{is_digit}
 use Rattle.lexer.proofs.Numerals.{walk_digit, walk_period, walk_stops, walk_ends, walk_all, walk_on, finish_at}
 use Rattle.lexer.proofs.number.size_of_digits.Goals as goal
-use Rattle.lexer.proofs.number.size_of_digits.Goals.{then-is-digit, else-is-digit+then-b-eq46+then-not-period, else-b-eq46-via-then-b-eq46+else-not-period, else-b-eq46-via-else-b-eq46}
+use Rattle.lexer.proofs.number.size_of_digits.Goals.{then-is_digit, else-is_digit+then-b-eq46+then-not-period, else-b-eq46-via-then-b-eq46+else-not-period, else-b-eq46-via-else-b-eq46}
 
-pub more-size-size-requires : goal.more-size-size-requires
+pub more_size-size-requires : goal.more_size-size-requires
 unfolding is_digit
-more-size-size-requires c = let h = c.if-is-digit.ensures in (c.loop-at.invariant.1, grind (arith, nat_tests))
+more_size-size-requires c = let h = c.if-is_digit.ensures in (c.loop-at.invariant.1, grind (arith, nat_tests))
 
 pub loop-at-init : goal.loop-at-init
 loop-at-init c = (omega arith, omega arith, walk_all _ _)
 
 pub loop-at-preserved : goal.loop-at-preserved
 loop-at-preserved c =
-    elim c.if-is-digit.branch [
-      | then-is-digit w ↦ (
+    elim c.if-is_digit.branch [
+      | then-is_digit w ↦ (
         omega arith,
-        omega (arith, w.size-is, w.more-size-size.ensures.high),
-        walk_on _ _ _ _ _ _ _ _ _ w.period-is w.digit-is (w.size-is ∙ w.more-size-size.ensures.is) (walk_digit _ _ _ _ _ _ c.loop-at-test.true (sym w.if-is-digit.ensures) c.loop-at.invariant.2),
+        omega (arith, w.size-is, w.more_size-size.ensures.high),
+        walk_on _ _ _ _ _ _ _ _ _ w.period-is w.digit-is (w.size-is ∙ w.more_size-size.ensures.is) (walk_digit _ _ _ _ _ _ c.loop-at-test.true (sym w.if-is_digit.ensures) c.loop-at.invariant.2),
       )
-      | else-is-digit+then-b-eq46+then-not-period w ↦ (
+      | else-is_digit+then-b-eq46+then-not-period w ↦ (
         omega arith,
         omega (arith, w.size-is),
-        walk_on _ _ _ _ _ _ _ _ _ w.period-is w.digit-is w.size-is (walk_period _ _ _ _ _ _ c.loop-at-test.true (sym w.if-is-digit.ensures) w.if-b-eq46.true w.if-not-period.true c.loop-at.invariant.2),
+        walk_on _ _ _ _ _ _ _ _ _ w.period-is w.digit-is w.size-is (walk_period _ _ _ _ _ _ c.loop-at-test.true (sym w.if-is_digit.ensures) w.if-b-eq46.true w.if-not-period.true c.loop-at.invariant.2),
       )
     ]
 
@@ -35,7 +35,7 @@ returns-else-b-eq46 c =
       | else-b-eq46-via-then-b-eq46+else-not-period w ↦ and_right _ _ (ap not w.if-not-period.false)
       | else-b-eq46-via-else-b-eq46 w ↦ and_left _ _ (ne_eqb _ _ w.if-b-eq46.false)
     ] in
-    walk_stops _ _ _ _ _ _ c.loop-at-test.true (sym c.if-is-digit.ensures) no c.loop-at.invariant.2
+    walk_stops _ _ _ _ _ _ c.loop-at-test.true (sym c.if-is_digit.ensures) no c.loop-at.invariant.2
 
 pub returns-then-not-digit : goal.returns-then-not-digit
 returns-then-not-digit c =

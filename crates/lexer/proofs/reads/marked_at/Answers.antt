@@ -5,29 +5,29 @@ use Rattle.lexer.proofs.reads.marked_at.Goals as goal
 pub returns-then-b-eq47 : goal.returns-then-b-eq47
 returns-then-b-eq47 c =
     record {
-      is = reads_as _ _ _ _ _ (on_slash _ _ _ c.if-b-eq47.true) c.name-at.ensures.is;
-      takes = c.name-at.ensures.takes;
+      is = reads_as _ _ _ _ _ (on_slash _ _ _ c.if-b-eq47.true) c.name_at.ensures.is;
+      takes = c.name_at.ensures.takes;
     }
 
 pub returns-then-b-eq40 : goal.returns-then-b-eq40
 returns-then-b-eq40 c =
     record {
-      is = reads_as _ _ _ _ _ (on_bracket _ _ _ c.if-b-eq47.false c.if-b-eq40.true) c.text-at.ensures.is;
-      takes = c.text-at.ensures.takes;
+      is = reads_as _ _ _ _ _ (on_bracket _ _ _ c.if-b-eq47.false c.if-b-eq40.true) c.text_at.ensures.is;
+      takes = c.text_at.ensures.takes;
     }
 
 pub returns-then-b-eq60 : goal.returns-then-b-eq60
 returns-then-b-eq60 c =
     record {
-      is = reads_as _ _ _ _ _ (on_less _ _ _ c.if-b-eq47.false c.if-b-eq40.false c.if-b-eq60.true) c.less-at.ensures.is;
-      takes = c.less-at.ensures.takes;
+      is = reads_as _ _ _ _ _ (on_less _ _ _ c.if-b-eq47.false c.if-b-eq40.false c.if-b-eq60.true) c.less_at.ensures.is;
+      takes = c.less_at.ensures.takes;
     }
 
 pub returns-then-b-eq62 : goal.returns-then-b-eq62
 returns-then-b-eq62 c =
     record {
-      is = reads_as _ _ _ _ _ (on_greater _ _ _ c.if-b-eq47.false c.if-b-eq40.false c.if-b-eq60.false c.if-b-eq62.true) c.greater-at.ensures.is;
-      takes = c.greater-at.ensures.takes;
+      is = reads_as _ _ _ _ _ (on_greater _ _ _ c.if-b-eq47.false c.if-b-eq40.false c.if-b-eq60.false c.if-b-eq62.true) c.greater_at.ensures.is;
+      takes = c.greater_at.ensures.takes;
     }
 
 pub returns-then-b-eq91 : goal.returns-then-b-eq91

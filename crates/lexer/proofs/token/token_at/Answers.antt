@@ -6,7 +6,7 @@ use Rattle.lexer.proofs.token.token_at.Goals as goal
 
 pub returns-then-at-src : goal.returns-then-at-src
 returns-then-at-src c =
-    let space = c.skip-space-at.ensures in
+    let space = c.skip_space-at.ensures in
     record {
       is = behind_space _ _ _ space.is ∙ ends_here _ _ c.if-at-src.true;
       placed = record { starts = space.low; ends = omega arith; inside = space.high; moves = (c.if-at-src.true, c.if-at-src.true) };
@@ -14,9 +14,9 @@ returns-then-at-src c =
 
 pub returns-in-Ok : goal.returns-in-Ok
 returns-in-Ok c =
-    let space = c.skip-space-at.ensures in
+    let space = c.skip_space-at.ensures in
     let told = c.in-Ok.ensures in
-    let here : c.skip-space-at.result < length c.args.src.now = omega arith in
+    let here : c.skip_space-at.result < length c.args.src.now = omega arith in
     let byte = took_byte _ _ _ told.takes.0 in
     record {
       is = behind_space _ _ _ space.is ∙ as_dropped _ _ _ _ here told.is;
@@ -28,8 +28,8 @@ returns-in-Err c =
     let told = c.in-Err.ensures in
     record {
       is =
-          ap token_fault_of (behind_space _ _ _ c.skip-space-at.ensures.is)
-          ∙ flaw_told (start_at c.skip-space-at.result (drop c.skip-space-at.result c.args.src.now)) _ _ told.is.0 told.is.1
-          ∙ ap Some (sym c.flaw-fault.ensures);
+          ap token_fault_of (behind_space _ _ _ c.skip_space-at.ensures.is)
+          ∙ flaw_told (start_at c.skip_space-at.result (drop c.skip_space-at.result c.args.src.now)) _ _ told.is.0 told.is.1
+          ∙ ap Some (sym c.flaw_fault.ensures);
       placed = tt;
     }
