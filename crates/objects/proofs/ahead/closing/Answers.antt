@@ -11,8 +11,8 @@ returns-in-CloseArray c =
     let moves : c.in-Ok.found.from < c.in-Ok.found.to = rw c.in-CloseArray.is at told.placed.moves in
     (ap closes_array (found_kind _ _ _ told.is ∙ ap kind_of c.in-CloseArray.is), found_ends _ _ _ told.is told.placed moves)
 
-pub returns-in-default : goal.returns-in-default
-returns-in-default c = ap closes_array (found_kind _ _ _ c.in-Ok.ensures.is) ∙ no_array_end _ c.in-default.not-CloseArray
+pub returns-in_default : goal.returns-in_default
+returns-in_default c = ap closes_array (found_kind _ _ _ c.in-Ok.ensures.is) ∙ no_array_end _ c.in_default.not-CloseArray
 
 pub returns-in-Err : goal.returns-in-Err
 returns-in-Err c = flawed_array _ _ _ c.in-Err.ensures.is

@@ -30,9 +30,9 @@ returns-in-End c =
     let told = c.in-Ok.ensures in
     found_next _ _ _ told.is ∙ ap (λ t. next c.in-Ok.found.from (kind_of t)) c.in-End.is ∙ ap fails (sym c.met.ensures)
 
-pub returns-in-default : goal.returns-in-default
-returns-in-default c =
-    found_next _ _ _ c.in-Ok.ensures.is ∙ no_entry _ _ c.in-default.not-Name c.in-default.not-CloseDict c.in-default.not-End ∙ ap fails (sym c.met-in-default.ensures)
+pub returns-in_default : goal.returns-in_default
+returns-in_default c =
+    found_next _ _ _ c.in-Ok.ensures.is ∙ no_entry _ _ c.in_default.not-Name c.in_default.not-CloseDict c.in_default.not-End ∙ ap fails (sym c.met-in_default.ensures)
 
 pub returns-in-Err : goal.returns-in-Err
 returns-in-Err c = flawed_next _ _ _ c.in-Err.ensures.is

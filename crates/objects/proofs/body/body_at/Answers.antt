@@ -13,7 +13,7 @@ pub returns-in-Array : goal.returns-in-Array
 returns-in-Array c =
     let start = c.in-Array.ensures in
     let at = start.1 in
-    record { is = body_array _ _ _ _ start.0 _ c.read-array.ensures.is; within = further _ _ _ _ (omega arith) c.read-array.ensures.within }
+    record { is = body_array _ _ _ _ start.0 _ c.read_array.ensures.is; within = further _ _ _ _ (omega arith) c.read_array.ensures.within }
 
 pub returns-in-Err : goal.returns-in-Err
 returns-in-Err c = record { is = body_dict_bad _ _ _ _ c.in-Dictionary.ensures.0 _ c.in-Err.ensures.is; within = tt }
@@ -34,4 +34,4 @@ returns-in-Some c =
     let at = start.1 in
     let on = told.within.0 in
     let far = word.2.low in
-    record { is = body_stream _ _ _ _ start.0 _ told.is _ _ _ word c.stream-rest.ensures.is; within = further _ _ _ _ (omega arith) c.stream-rest.ensures.within }
+    record { is = body_stream _ _ _ _ start.0 _ told.is _ _ _ word c.stream_rest.ensures.is; within = further _ _ _ _ (omega arith) c.stream_rest.ensures.within }

@@ -2,14 +2,14 @@ use Rattle.std.proofs.Common.{◌≡◌, Some, sym, ap, ◌∙◌}
 use Rattle.objects.proofs.Bodies.{put_loose, put_bad, put_more, put_all}
 use Rattle.objects.proofs.body.check_body.Goals as goal
 
-pub returns-then-starts-loose : goal.returns-then-starts-loose
-returns-then-starts-loose c = ap Some c.met.ensures ∙ put_loose _ (sym c.if-starts-loose.ensures)
+pub returns-then-starts_loose : goal.returns-then-starts_loose
+returns-then-starts_loose c = ap Some c.met.ensures ∙ put_loose _ (sym c.if-starts_loose.ensures)
 
 pub returns-then-end-src : goal.returns-then-end-src
-returns-then-end-src c = ap Some c.met-then-end-src.ensures ∙ put_more _ (sym c.if-starts-loose.ensures) _ c.in-Ok.ensures.is c.if-end-src.true
+returns-then-end-src c = ap Some c.met-then-end-src.ensures ∙ put_more _ (sym c.if-starts_loose.ensures) _ c.in-Ok.ensures.is c.if-end-src.true
 
 pub returns-else-end-src : goal.returns-else-end-src
-returns-else-end-src c = put_all _ (sym c.if-starts-loose.ensures) _ c.in-Ok.ensures.is c.if-end-src.false
+returns-else-end-src c = put_all _ (sym c.if-starts_loose.ensures) _ c.in-Ok.ensures.is c.if-end-src.false
 
 pub returns-in-Err : goal.returns-in-Err
-returns-in-Err c = put_bad _ (sym c.if-starts-loose.ensures) _ c.in-Err.ensures.is
+returns-in-Err c = put_bad _ (sym c.if-starts_loose.ensures) _ c.in-Err.ensures.is

@@ -15,9 +15,9 @@ returns-in-Integer c =
     ∙ ap (λ (s : Shape). length_shape (Some s)) (sym c.in-Integer.is)
     ∙ length_found c.args.src.now c.args.first (Some c.in-Some.value) c.in-Some.ensures
 
-pub returns-in-default : goal.returns-in-default
+pub returns-in_default : goal.returns-in_default
 unfolding spelled
-returns-in-default c = no_length c.in-Some.value.shape c.in-default.not-Integer ∙ length_found c.args.src.now c.args.first (Some c.in-Some.value) c.in-Some.ensures
+returns-in_default c = no_length c.in-Some.value.shape c.in_default.not-Integer ∙ length_found c.args.src.now c.args.first (Some c.in-Some.value) c.in-Some.ensures
 
 pub returns-in-None : goal.returns-in-None
 unfolding spelled

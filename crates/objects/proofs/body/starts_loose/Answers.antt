@@ -6,8 +6,8 @@ use Rattle.objects.proofs.body.starts_loose.Goals as goal
 pub returns-then-src-eq0 : goal.returns-then-src-eq0
 returns-then-src-eq0 c = loose_none _ c.if-src-eq0.true
 
-pub returns-then-is-white : goal.returns-then-is-white
-returns-then-is-white c = let w : is_white (get_or c.args.src.now 0 0) ≡ true = sym c.if-is-white.ensures in rw w at (loose_some c.args.src.now c.if-src-eq0.false)
+pub returns-then-is_white : goal.returns-then-is_white
+returns-then-is_white c = let w : is_white (get_or c.args.src.now 0 0) ≡ true = sym c.if-is_white.ensures in rw w at (loose_some c.args.src.now c.if-src-eq0.false)
 
 pub returns : goal.returns
-returns c = let w : is_white (get_or c.args.src.now 0 0) ≡ false = sym c.if-is-white.ensures in rw w at (loose_some c.args.src.now c.if-src-eq0.false)
+returns c = let w : is_white (get_or c.args.src.now 0 0) ≡ false = sym c.if-is_white.ensures in rw w at (loose_some c.args.src.now c.if-src-eq0.false)

@@ -15,8 +15,8 @@ returns-in-Unsigned c =
 pub returns-in-End : goal.returns-in-End
 returns-in-End c = record { is = end_int _ _ _ c.in-Ok.ensures.is c.in-End.is _ c.met.ensures; within = tt }
 
-pub returns-in-default : goal.returns-in-default
-returns-in-default c = record { is = other_int _ _ _ c.in-Ok.ensures.is c.in-default.not-Unsigned c.in-default.not-End _ c.met-in-default.ensures; within = tt }
+pub returns-in_default : goal.returns-in_default
+returns-in_default c = record { is = other_int _ _ _ c.in-Ok.ensures.is c.in_default.not-Unsigned c.in_default.not-End _ c.met-in_default.ensures; within = tt }
 
 pub returns-in-Err : goal.returns-in-Err
 returns-in-Err c = let told = c.in-Err.ensures in record { is = int_missing _ _ (flawed_int _ _ _ told.is) (unfit_flawed (token_in c.args.src.now c.args.from) _ told.is); within = tt }

@@ -5,29 +5,29 @@ use Rattle.objects.proofs.Founds.{flawed_word, found_kind, found_ends, no_word, 
 use Rattle.objects.proofs.Frames.{unfit_flawed, word_there, word_missing, end_word, other_word, wrong_word, word_no_end}
 use Rattle.objects.proofs.frame.the_word.Goals as goal
 
-pub returns-then-same-bytes : goal.returns-then-same-bytes
-returns-then-same-bytes c =
+pub returns-then-same_bytes : goal.returns-then-same_bytes
+returns-then-same_bytes c =
     let told = c.in-Ok.ensures in
     let moves : c.in-Ok.found.from < c.in-Ok.found.to = rw c.in-Word.is at told.placed.moves in
     let ends = found_ends _ _ _ told.is told.placed moves in
     record {
-      is = word_there _ _ _ _ (the_word_fact _ _ _ (found_kind _ _ _ told.is ∙ ap kind_of c.in-Word.is) ∙ sym c.if-same-bytes.ensures) ends.to ends.rest;
+      is = word_there _ _ _ _ (the_word_fact _ _ _ (found_kind _ _ _ told.is ∙ ap kind_of c.in-Word.is) ∙ sym c.if-same_bytes.ensures) ends.to ends.rest;
       within = told.placed.inside;
     }
 
-pub returns-else-same-bytes : goal.returns-else-same-bytes
-returns-else-same-bytes c =
+pub returns-else-same_bytes : goal.returns-else-same_bytes
+returns-else-same_bytes c =
     let told = c.in-Ok.ensures in
     record {
-      is = wrong_word _ _ _ told.is _ (word_no_end _ _ c.in-Word.is) (the_word_fact _ _ _ (found_kind _ _ _ told.is ∙ ap kind_of c.in-Word.is) ∙ sym c.if-same-bytes.ensures) _ c.met.ensures;
+      is = wrong_word _ _ _ told.is _ (word_no_end _ _ c.in-Word.is) (the_word_fact _ _ _ (found_kind _ _ _ told.is ∙ ap kind_of c.in-Word.is) ∙ sym c.if-same_bytes.ensures) _ c.met.ensures;
       within = tt;
     }
 
 pub returns-in-End : goal.returns-in-End
 returns-in-End c = record { is = end_word _ _ _ c.in-Ok.ensures.is _ c.in-End.is _ c.met-in-End.ensures; within = tt }
 
-pub returns-in-default : goal.returns-in-default
-returns-in-default c = record { is = other_word _ _ _ c.in-Ok.ensures.is _ c.in-default.not-Word c.in-default.not-End _ c.met-in-default.ensures; within = tt }
+pub returns-in_default : goal.returns-in_default
+returns-in_default c = record { is = other_word _ _ _ c.in-Ok.ensures.is _ c.in_default.not-Word c.in_default.not-End _ c.met-in_default.ensures; within = tt }
 
 pub returns-in-Err : goal.returns-in-Err
 returns-in-Err c = let told = c.in-Err.ensures in record { is = word_missing _ _ _ (flawed_word _ _ _ told.is _) (unfit_flawed (token_in c.args.src.now c.args.from) _ told.is); within = tt }

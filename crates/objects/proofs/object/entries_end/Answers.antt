@@ -7,4 +7,4 @@ pub returns-then-from-src : goal.returns-then-from-src
 returns-then-from-src c = ap bad c.met.ensures ∙ entries_past _ _ (omega arith)
 
 pub returns : goal.returns
-returns c = c.read-dictionary.ensures.is ∙ entries_read _ _
+returns c = c.read_dictionary.ensures.is ∙ entries_read _ _

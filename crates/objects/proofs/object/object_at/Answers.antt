@@ -7,4 +7,4 @@ pub returns-then-from-src : goal.returns-then-from-src
 returns-then-from-src c = ap bad c.met.ensures ∙ object_past _ _ (omega arith)
 
 pub returns : goal.returns
-returns c = c.read-object.ensures.is ∙ object_read _ _
+returns c = c.read_object.ensures.is ∙ object_read _ _

@@ -7,37 +7,37 @@ use Rattle.objects.specs.Steps.{bare}
 use Rattle.objects.proofs.Turns.{Elements, Entered, Walking}
 use Rattle.objects.proofs.read.+find_value_read_array_read_dictionary_read_object.Given as goal
 
-abbrev pub decreases-find-value : goal.decreases-find-value
-decreases-find-value l = 2 * l.depth + 1
+abbrev pub decreases-find_value : goal.decreases-find_value
+decreases-find_value l = 2 * l.depth + 1
 
-abbrev pub decreases-read-array : goal.decreases-read-array
-decreases-read-array l = cond l.check 1024 0 + (2 * l.depth + 1)
+abbrev pub decreases-read_array : goal.decreases-read_array
+decreases-read_array l = cond l.check 1024 0 + (2 * l.depth + 1)
 
-abbrev pub decreases-read-dictionary : goal.decreases-read-dictionary
-decreases-read-dictionary l = cond l.check 1024 0 + (2 * l.depth + 1)
+abbrev pub decreases-read_dictionary : goal.decreases-read_dictionary
+decreases-read_dictionary l = cond l.check 1024 0 + (2 * l.depth + 1)
 
-abbrev pub decreases-read-object : goal.decreases-read-object
-decreases-read-object l = cond l.check 1024 0 + 2 * l.depth
+abbrev pub decreases-read_object : goal.decreases-read_object
+decreases-read_object l = cond l.check 1024 0 + 2 * l.depth
 
-abbrev pub invariant-read-array-elements : goal.invariant-read-array-elements
-invariant-read-array-elements l =
+abbrev pub invariant-read_array-elements : goal.invariant-read_array-elements
+invariant-read_array-elements l =
     (l.from ≤ l.at) × (l.at ≤ length l.src) × Elements (read_by l.check l.depth) l.src l.at (bare (items (read_by l.check l.depth) turns l.from (drop l.from l.src)))
 
-abbrev pub decreases-read-array-elements : goal.decreases-read-array-elements
-decreases-read-array-elements l = length l.src - l.at
+abbrev pub decreases-read_array-elements : goal.decreases-read_array-elements
+decreases-read_array-elements l = length l.src - l.at
 
-abbrev pub invariant-read-dictionary-entries : goal.invariant-read-dictionary-entries
-invariant-read-dictionary-entries l =
+abbrev pub invariant-read_dictionary-entries : goal.invariant-read_dictionary-entries
+invariant-read_dictionary-entries l =
     (l.from ≤ l.at) × (l.at ≤ length l.src)
     × Entered l.check l.depth l.src l.from l.at (bare (entries_by l.check (read_by l.check l.depth) turns no_entries l.from (drop l.from l.src)))
 
-abbrev pub decreases-read-dictionary-entries : goal.decreases-read-dictionary-entries
-decreases-read-dictionary-entries l = length l.src - l.at
+abbrev pub decreases-read_dictionary-entries : goal.decreases-read_dictionary-entries
+decreases-read_dictionary-entries l = length l.src - l.at
 
-abbrev pub invariant-find-value-walk : goal.invariant-find-value-walk
-invariant-find-value-walk l =
+abbrev pub invariant-find_value-walk : goal.invariant-find_value-walk
+invariant-find_value-walk l =
     (l.from ≤ l.at) × (l.at ≤ length l.src)
     × Walking (read_by false l.depth) l.src (spelled l.name) l.stop l.at (find (read_by false l.depth) turns (spelled l.name) l.stop l.from (drop l.from l.src))
 
-abbrev pub decreases-find-value-walk : goal.decreases-find-value-walk
-decreases-find-value-walk l = length l.src - l.at
+abbrev pub decreases-find_value-walk : goal.decreases-find_value-walk
+decreases-find_value-walk l = length l.src - l.at

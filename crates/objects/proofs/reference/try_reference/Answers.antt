@@ -11,12 +11,12 @@ returns-then-number-lt1 c = record { is = (ref_no_number _ _ _ _ c.in-Some.ensur
 pub returns-then-generation-gt65535 : goal.returns-then-generation-gt65535
 returns-then-generation-gt65535 c = record { is = (ref_no_generation _ _ _ _ c.in-Some.ensures.is.0 c.if-generation-gt65535.true, c.drop-trial-then-generation-gt65535.ensures) }
 
-pub returns-then-not-take-r : goal.returns-then-not-take-r
-returns-then-not-take-r c =
+pub returns-then-not-take_r : goal.returns-then-not-take_r
+returns-then-not-take_r c =
     let told = c.in-Some.ensures.is in
-    record { is = (ref_no_mark _ _ _ _ told.0 _ told.1 c.if-not-take-r.ensures.is, c.drop-trial-then-not-take-r.ensures) }
+    record { is = (ref_no_mark _ _ _ _ told.0 _ told.1 c.if-not-take_r.ensures.is, c.drop-trial-then-not-take_r.ensures) }
 
 pub returns : goal.returns
 returns c =
     let told = c.in-Some.ensures.is in
-    record { is = tries_found _ _ _ _ told.0 _ told.1 (omega arith) (omega arith) _ c.if-not-take-r.ensures.is _ c.drop-trial-2.ensures }
+    record { is = tries_found _ _ _ _ told.0 _ told.1 (omega arith) (omega arith) _ c.if-not-take_r.ensures.is _ c.drop-trial-2.ensures }

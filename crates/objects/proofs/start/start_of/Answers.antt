@@ -132,9 +132,9 @@ returns-in-Hex c =
       refl,
     )
 
-pub returns-in-Some-word-shape : goal.returns-in-Some-word-shape
+pub returns-in-Some-word_shape : goal.returns-in-Some-word_shape
 unfolding of_token
-returns-in-Some-word-shape c =
+returns-in-Some-word_shape c =
     let told = c.in-Ok.ensures in
     let moves : c.in-Ok.found.from < c.in-Ok.found.to = rw c.in-Word.is at told.placed.moves in
     let at = further _ _ _ _ told.placed.starts moves told.placed.inside in
@@ -143,15 +143,15 @@ returns-in-Some-word-shape c =
           ap shaped (found_one _ _ _ told.is A D)
           ∙ ap (λ u. shaped (of_token (A c.in-Ok.found.from) (D c.in-Ok.found.from) (kind_of u) (found_token c.args.src.now c.in-Ok.found))) c.in-Word.is
           ∙ words c.in-Word.word.now t
-          ∙ ap (word_got t.from t.to t.rest) (sym c.in-Some-word-shape.ensures)),
+          ∙ ap (word_got t.from t.to t.rest) (sym c.in-Some-word_shape.ensures)),
       at.0,
       at.1,
-      word_plain _ _ c.in-Some-word-shape.ensures,
+      word_plain _ _ c.in-Some-word_shape.ensures,
     )
 
-pub returns-in-None-word-shape : goal.returns-in-None-word-shape
+pub returns-in-None-word_shape : goal.returns-in-None-word_shape
 unfolding of_token
-returns-in-None-word-shape c =
+returns-in-None-word_shape c =
     let told = c.in-Ok.ensures in
     let t = found_token c.args.src.now c.in-Ok.found in
     λ A D.
@@ -160,7 +160,7 @@ returns-in-None-word-shape c =
     (ap shaped (found_one _ _ _ told.is A D)
     ∙ ap (λ u. shaped (of_token (A c.in-Ok.found.from) (D c.in-Ok.found.from) (kind_of u) (found_token c.args.src.now c.in-Ok.found))) c.in-Word.is
     ∙ words c.in-Word.word.now t
-    ∙ ap (word_got t.from t.to t.rest) (sym c.in-None-word-shape.ensures)
+    ∙ ap (word_got t.from t.to t.rest) (sym c.in-None-word_shape.ensures)
     ∙ ap bad (sym c.met.ensures)))
 
 pub returns-in-OpenArray : goal.returns-in-OpenArray

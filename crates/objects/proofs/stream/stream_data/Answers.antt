@@ -9,6 +9,6 @@ returns-then-len-src c = record { is = ap bad c.met.ensures ∙ data_few _ _ _ c
 
 pub returns : goal.returns
 returns c =
-    let on = c.skip-eol.ensures.within.0 in
-    let low : c.args.from ≤ c.skip-eol.result = omega arith in
-    record { is = c.end-stream.ensures.is ∙ data_there _ _ _ _ c.if-len-src.false c.skip-eol.ensures.is; within = further _ _ _ _ low c.end-stream.ensures.within }
+    let on = c.skip_eol.ensures.within.0 in
+    let low : c.args.from ≤ c.skip_eol.result = omega arith in
+    record { is = c.end_stream.ensures.is ∙ data_there _ _ _ _ c.if-len-src.false c.skip_eol.ensures.is; within = further _ _ _ _ low c.end_stream.ensures.within }
