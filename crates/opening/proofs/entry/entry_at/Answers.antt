@@ -4,51 +4,51 @@ use Rattle.format.specs.Lines.{slot}
 use Rattle.opening.proofs.Pieces.{cut, on, passes_from, row_lacks}
 use Rattle.opening.proofs.entry.entry_at.Goals as goal
 
-pub returns-in-err-field : goal.returns-in-err-field
+pub returns-in_err-field : goal.returns-in_err-field
 unfolding slot
-returns-in-err-field c =
-    let p = err_from_is_err_and c.from-residual.result c.from-residual.ensures.1 in
-    let z : c.from-residual.result ≡ Err c.in-err-field.field-0.0 = cc in
-    row_lacks _ _ _ _ _ _ z (λ base. cut _ _ _ (c.in-err-field.ensures.is.is base))
+returns-in_err-field c =
+    let p = err_from_is_err_and c.from_residual.result c.from_residual.ensures.1 in
+    let z : c.from_residual.result ≡ Err c.in_err-field.field-0.0 = cc in
+    row_lacks _ _ _ _ _ _ z (λ base. cut _ _ _ (c.in_err-field.ensures.is.is base))
 
-pub returns-in-err-gap-end : goal.returns-in-err-gap-end
+pub returns-in_err-gap_end : goal.returns-in_err-gap_end
 unfolding slot
-returns-in-err-gap-end c =
-    let p = err_from_is_err_and c.from-residual-in-err-gap-end.result c.from-residual-in-err-gap-end.ensures.1 in
-    let z : c.from-residual-in-err-gap-end.result ≡ Err c.in-err-gap-end.field-0.0 = cc in
-    row_lacks _ _ _ _ _ _ z (λ base. on _ _ (c.in-ok-field.ensures.is.is base) (cut _ _ _ (c.in-err-gap-end.ensures.is base)))
+returns-in_err-gap_end c =
+    let p = err_from_is_err_and c.from_residual-in_err-gap_end.result c.from_residual-in_err-gap_end.ensures.1 in
+    let z : c.from_residual-in_err-gap_end.result ≡ Err c.in_err-gap_end.field-0.0 = cc in
+    row_lacks _ _ _ _ _ _ z (λ base. on _ _ (c.in_ok-field.ensures.is.is base) (cut _ _ _ (c.in_err-gap_end.ensures.is base)))
 
-pub returns-in-err-generation : goal.returns-in-err-generation
+pub returns-in_err-generation : goal.returns-in_err-generation
 unfolding slot
-returns-in-err-generation c =
-    let p = err_from_is_err_and c.from-residual-in-err-generation.result c.from-residual-in-err-generation.ensures.1 in
-    let z : c.from-residual-in-err-generation.result ≡ Err c.in-err-generation.field-0.0 = cc in
-    row_lacks _ _ _ _ _ _ z (λ base. on _ _ (c.in-ok-field.ensures.is.is base) (on _ _ (c.in-ok-gap-end.ensures.is base) (cut _ _ _ (c.in-err-generation.ensures.is.is base))))
+returns-in_err-generation c =
+    let p = err_from_is_err_and c.from_residual-in_err-generation.result c.from_residual-in_err-generation.ensures.1 in
+    let z : c.from_residual-in_err-generation.result ≡ Err c.in_err-generation.field-0.0 = cc in
+    row_lacks _ _ _ _ _ _ z (λ base. on _ _ (c.in_ok-field.ensures.is.is base) (on _ _ (c.in_ok-gap_end.ensures.is base) (cut _ _ _ (c.in_err-generation.ensures.is.is base))))
 
-pub returns-in-err-mark-start : goal.returns-in-err-mark-start
+pub returns-in_err-mark_start : goal.returns-in_err-mark_start
 unfolding slot
-returns-in-err-mark-start c =
-    let p = err_from_is_err_and c.from-residual-in-err-mark-start.result c.from-residual-in-err-mark-start.ensures.1 in
-    let z : c.from-residual-in-err-mark-start.result ≡ Err c.in-err-mark-start.field-0.0 = cc in
-    row_lacks _ _ _ _ _ _ z (λ base. on _ _ (c.in-ok-field.ensures.is.is base) (on _ _ (c.in-ok-gap-end.ensures.is base) (on _ _ (c.in-ok-generation.ensures.is.is base) (cut _ _ _ (c.in-err-mark-start.ensures.is base)))))
+returns-in_err-mark_start c =
+    let p = err_from_is_err_and c.from_residual-in_err-mark_start.result c.from_residual-in_err-mark_start.ensures.1 in
+    let z : c.from_residual-in_err-mark_start.result ≡ Err c.in_err-mark_start.field-0.0 = cc in
+    row_lacks _ _ _ _ _ _ z (λ base. on _ _ (c.in_ok-field.ensures.is.is base) (on _ _ (c.in_ok-gap_end.ensures.is base) (on _ _ (c.in_ok-generation.ensures.is.is base) (cut _ _ _ (c.in_err-mark_start.ensures.is base)))))
 
-pub returns-in-err-in-use : goal.returns-in-err-in-use
+pub returns-in_err-in_use : goal.returns-in_err-in_use
 unfolding slot
-returns-in-err-in-use c =
-    let p = err_from_is_err_and c.from-residual-in-err-in-use.result c.from-residual-in-err-in-use.ensures.1 in
-    let z : c.from-residual-in-err-in-use.result ≡ Err c.in-err-in-use.field-0.0 = cc in
-    row_lacks _ _ _ _ _ _ z (λ base. on _ _ (c.in-ok-field.ensures.is.is base) (on _ _ (c.in-ok-gap-end.ensures.is base) (on _ _ (c.in-ok-generation.ensures.is.is base) (on _ _ (c.in-ok-mark-start.ensures.is base) (cut _ _ _ (c.in-err-in-use.ensures.is base))))))
+returns-in_err-in_use c =
+    let p = err_from_is_err_and c.from_residual-in_err-in_use.result c.from_residual-in_err-in_use.ensures.1 in
+    let z : c.from_residual-in_err-in_use.result ≡ Err c.in_err-in_use.field-0.0 = cc in
+    row_lacks _ _ _ _ _ _ z (λ base. on _ _ (c.in_ok-field.ensures.is.is base) (on _ _ (c.in_ok-gap_end.ensures.is base) (on _ _ (c.in_ok-generation.ensures.is.is base) (on _ _ (c.in_ok-mark_start.ensures.is base) (cut _ _ _ (c.in_err-in_use.ensures.is base))))))
 
-pub returns-in-err-end : goal.returns-in-err-end
+pub returns-in_err-end : goal.returns-in_err-end
 unfolding slot
-returns-in-err-end c =
-    let p = err_from_is_err_and c.from-residual-in-err-end.result c.from-residual-in-err-end.ensures.1 in
-    let z : c.from-residual-in-err-end.result ≡ Err c.in-err-end.field-0.0 = cc in
-    row_lacks _ _ _ _ _ _ z (λ base. on _ _ (c.in-ok-field.ensures.is.is base) (on _ _ (c.in-ok-gap-end.ensures.is base) (on _ _ (c.in-ok-generation.ensures.is.is base) (on _ _ (c.in-ok-mark-start.ensures.is base) (on _ _ (c.in-ok-in-use.ensures.is base) (cut _ _ _ (c.in-err-end.ensures.is base)))))))
+returns-in_err-end c =
+    let p = err_from_is_err_and c.from_residual-in_err-end.result c.from_residual-in_err-end.ensures.1 in
+    let z : c.from_residual-in_err-end.result ≡ Err c.in_err-end.field-0.0 = cc in
+    row_lacks _ _ _ _ _ _ z (λ base. on _ _ (c.in_ok-field.ensures.is.is base) (on _ _ (c.in_ok-gap_end.ensures.is base) (on _ _ (c.in_ok-generation.ensures.is.is base) (on _ _ (c.in_ok-mark_start.ensures.is base) (on _ _ (c.in_ok-in_use.ensures.is base) (cut _ _ _ (c.in_err-end.ensures.is base)))))))
 
 pub returns : goal.returns
 unfolding slot
 returns c = record {
-  is = λ base. on _ _ (c.in-ok-field.ensures.is.is base) (on _ _ (c.in-ok-gap-end.ensures.is base) (on _ _ (c.in-ok-generation.ensures.is.is base) (on _ _ (c.in-ok-mark-start.ensures.is base) (on _ _ (c.in-ok-in-use.ensures.is base) (on _ _ (c.in-ok-end.ensures.is base) (refl))))));
-  within = (omega (arith, c.in-ok-field.ensures.is.within.0, c.in-ok-gap-end.ensures.within.0, c.in-ok-generation.ensures.is.within.0, c.in-ok-mark-start.ensures.within.0, c.in-ok-in-use.ensures.within.0, c.in-ok-end.ensures.within.0), c.in-ok-end.ensures.within.1);
+  is = λ base. on _ _ (c.in_ok-field.ensures.is.is base) (on _ _ (c.in_ok-gap_end.ensures.is base) (on _ _ (c.in_ok-generation.ensures.is.is base) (on _ _ (c.in_ok-mark_start.ensures.is base) (on _ _ (c.in_ok-in_use.ensures.is base) (on _ _ (c.in_ok-end.ensures.is base) (refl))))));
+  within = (omega (arith, c.in_ok-field.ensures.is.within.0, c.in_ok-gap_end.ensures.within.0, c.in_ok-generation.ensures.is.within.0, c.in_ok-mark_start.ensures.within.0, c.in_ok-in_use.ensures.within.0, c.in_ok-end.ensures.within.0), c.in_ok-end.ensures.within.1);
 }

@@ -2,30 +2,30 @@ use Rattle.std.proofs.Common.{◌-◌, sym, refl, arith}
 use Rattle.opening.proofs.Backwards.{run_start, run_more, run_many, run_stops, run_empty, run_ends, run_no_digit, power_start, power_more, power_small, lead_below}
 use Rattle.opening.proofs.last.back_digits.Goals as goal
 
-pub lead-digit-value-requires : goal.lead-digit-value-requires
-lead-digit-value-requires c = (sym c.if-not-is-digit.ensures, (power_small _ (c.args.at - c.loop-low.low) c.loop-low.invariant.2 (omega arith), c.loop-low.invariant.3))
+pub lead_digit-value-requires : goal.lead_digit-value-requires
+lead_digit-value-requires c = (sym c.if-not-is_digit.ensures, (power_small _ (c.args.at - c.loop-low.low) c.loop-low.invariant.2 (omega arith), c.loop-low.invariant.3))
 
-pub overflow-mul-power : goal.overflow-mul-power
-overflow-mul-power c = let p = power_small _ (c.args.at - c.loop-low.low) c.loop-low.invariant.2 (omega arith) in omega arith
+pub overflow_mul-power : goal.overflow_mul-power
+overflow_mul-power c = let p = power_small _ (c.args.at - c.loop-low.low) c.loop-low.invariant.2 (omega arith) in omega arith
 
 pub loop-low-init : goal.loop-low-init
 loop-low-init c = (omega arith, omega arith, power_start _ (omega arith), omega arith, run_start _ _ _ refl)
 
 pub returns-then-low-at : goal.returns-then-low-at
 returns-then-low-at c = record {
-  is = run_empty c.args.src.now c.args.at c.loop-low.low _ _ c.loop-low.invariant.4 (omega arith) (omega arith) (omega arith) (sym c.if-not-is-digit.ensures);
+  is = run_empty c.args.src.now c.args.at c.loop-low.low _ _ c.loop-low.invariant.4 (omega arith) (omega arith) (omega arith) (sym c.if-not-is_digit.ensures);
   within = tt;
 }
 
-pub returns-then-not-is-digit : goal.returns-then-not-is-digit
-returns-then-not-is-digit c = record {
-  is = run_stops c.args.src.now c.args.at c.loop-low.low _ _ c.loop-low.invariant.4 (omega arith) (omega arith) (omega arith) (omega arith) (sym c.if-not-is-digit.ensures);
+pub returns-then-not-is_digit : goal.returns-then-not-is_digit
+returns-then-not-is_digit c = record {
+  is = run_stops c.args.src.now c.args.at c.loop-low.low _ _ c.loop-low.invariant.4 (omega arith) (omega arith) (omega arith) (omega arith) (sym c.if-not-is_digit.ensures);
   within = omega arith;
 }
 
 pub returns-then-at-low-eq10 : goal.returns-then-at-low-eq10
 returns-then-at-low-eq10 c = record {
-  is = run_many c.args.src.now c.args.at c.loop-low.low _ _ c.loop-low.invariant.4 (omega arith) (omega arith) (omega arith) (sym c.if-not-is-digit.ensures);
+  is = run_many c.args.src.now c.args.at c.loop-low.low _ _ c.loop-low.invariant.4 (omega arith) (omega arith) (omega arith) (sym c.if-not-is_digit.ensures);
   within = tt;
 }
 
@@ -34,8 +34,8 @@ loop-low-preserved c = (
   omega arith,
   omega arith,
   power_more _ (c.args.at - c.loop-low.low) _ c.loop-low.invariant.2 (omega arith),
-  lead_below _ _ _ _ c.lead-digit-value.ensures c.loop-low.invariant.3 (sym c.if-not-is-digit.ensures),
-  run_more c.args.src.now c.args.at c.loop-low.low _ _ c.loop-low.invariant.4 (omega arith) (omega arith) _ _ c.lead-digit-value.ensures refl (omega arith) (sym c.if-not-is-digit.ensures),
+  lead_below _ _ _ _ c.lead_digit-value.ensures c.loop-low.invariant.3 (sym c.if-not-is_digit.ensures),
+  run_more c.args.src.now c.args.at c.loop-low.low _ _ c.loop-low.invariant.4 (omega arith) (omega arith) _ _ c.lead_digit-value.ensures refl (omega arith) (sym c.if-not-is_digit.ensures),
 )
 
 pub returns-then-low-at-2 : goal.returns-then-low-at-2

@@ -2,5 +2,5 @@ use Rattle.std.proofs.Common.{arith}
 use Rattle.opening.proofs.Digits.{digit_range}
 use Rattle.opening.proofs.last.lead_digit.Goals as goal
 
-pub overflow-sub-result : goal.overflow-sub-result
-overflow-sub-result c = (digit_range _ c.requires.0).0
+pub overflow_sub-result : goal.overflow_sub-result
+overflow_sub-result c = (digit_range _ c.requires.0).0

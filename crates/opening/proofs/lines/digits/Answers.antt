@@ -14,27 +14,27 @@ bounded n k h l = let p : 10 ^ k ≤ 10 ^ 10 = pow-le-pow_right {n = 10} (lit< t
 first : (k : ℕ) → k ≡ 0 → 0 < 10 ^ k
 first k e = rw e (lit< tt)
 
-pub with-digit-value-requires : goal.with-digit-value-requires
-with-digit-value-requires c = (few _ (c.loop-at.at - c.args.from) c.loop-at.invariant.3 (omega arith), sym c.if-not-is-digit.ensures)
+pub with_digit-value-requires : goal.with_digit-value-requires
+with_digit-value-requires c = (few _ (c.loop-at.at - c.args.from) c.loop-at.invariant.3 (omega arith), sym c.if-not-is_digit.ensures)
 
 pub loop-at-init : goal.loop-at-init
 loop-at-init c = (omega arith, omega arith, omega arith, first _ (omega arith), λ base. start base c.args.from (c.args.from - c.args.from) _ (omega arith))
 
 pub returns-then-at-from : goal.returns-then-at-from
 returns-then-at-from c = record {
-  is = record { is = λ base. digits_misfit c.args.src.now (c.loop-at.at - c.args.from) c.loop-at.value c.loop-at.at base (c.loop-at.invariant.4 base) (omega arith) (omega arith) (sym c.if-not-is-digit.ensures); within = tt };
+  is = record { is = λ base. digits_misfit c.args.src.now (c.loop-at.at - c.args.from) c.loop-at.value c.loop-at.at base (c.loop-at.invariant.4 base) (omega arith) (omega arith) (sym c.if-not-is_digit.ensures); within = tt };
   small = tt;
 }
 
-pub returns-then-not-is-digit : goal.returns-then-not-is-digit
-returns-then-not-is-digit c = record {
-  is = record { is = λ base. digits_stop c.args.src.now (c.loop-at.at - c.args.from) c.loop-at.value c.loop-at.at base (c.loop-at.invariant.4 base) (omega arith) (omega arith) (omega arith) (sym c.if-not-is-digit.ensures); within = (omega arith, omega arith) };
+pub returns-then-not-is_digit : goal.returns-then-not-is_digit
+returns-then-not-is_digit c = record {
+  is = record { is = λ base. digits_stop c.args.src.now (c.loop-at.at - c.args.from) c.loop-at.value c.loop-at.at base (c.loop-at.invariant.4 base) (omega arith) (omega arith) (omega arith) (sym c.if-not-is_digit.ensures); within = (omega arith, omega arith) };
   small = bounded _ (c.loop-at.at - c.args.from) c.loop-at.invariant.3 (omega arith);
 }
 
 pub returns-then-at-from-eq10 : goal.returns-then-at-from-eq10
 returns-then-at-from-eq10 c = record {
-  is = record { is = λ base. digits_many c.args.src.now (c.loop-at.at - c.args.from) c.loop-at.value c.loop-at.at base (c.loop-at.invariant.4 base) (omega arith) (omega arith) (sym c.if-not-is-digit.ensures); within = tt };
+  is = record { is = λ base. digits_many c.args.src.now (c.loop-at.at - c.args.from) c.loop-at.value c.loop-at.at base (c.loop-at.invariant.4 base) (omega arith) (omega arith) (sym c.if-not-is_digit.ensures); within = tt };
   small = tt;
 }
 
@@ -43,8 +43,8 @@ loop-at-preserved c = (
   omega arith,
   omega arith,
   omega arith,
-  next_power c.loop-at.value _ _ (c.loop-at.at - c.args.from) (c.loop-at.at + 1 - c.args.from) c.with-digit-value.ensures (omega arith) c.loop-at.invariant.3 (sym c.if-not-is-digit.ensures),
-  λ base. ap (λ m. digits_at (c.loop-at.at + 1 - c.args.from) m (base + (c.loop-at.at + 1)) (drop (c.loop-at.at + 1) c.args.src.now)) c.with-digit-value.ensures ∙ digits_more c.args.src.now (c.loop-at.at - c.args.from) c.loop-at.value c.loop-at.at base (c.loop-at.invariant.4 base) (c.loop-at.at + 1 - c.args.from) (omega arith) (omega arith) (sym c.if-not-is-digit.ensures),
+  next_power c.loop-at.value _ _ (c.loop-at.at - c.args.from) (c.loop-at.at + 1 - c.args.from) c.with_digit-value.ensures (omega arith) c.loop-at.invariant.3 (sym c.if-not-is_digit.ensures),
+  λ base. ap (λ m. digits_at (c.loop-at.at + 1 - c.args.from) m (base + (c.loop-at.at + 1)) (drop (c.loop-at.at + 1) c.args.src.now)) c.with_digit-value.ensures ∙ digits_more c.args.src.now (c.loop-at.at - c.args.from) c.loop-at.value c.loop-at.at base (c.loop-at.invariant.4 base) (c.loop-at.at + 1 - c.args.from) (omega arith) (omega arith) (sym c.if-not-is_digit.ensures),
 )
 
 pub returns-then-at-from-2 : goal.returns-then-at-from-2

@@ -3,8 +3,8 @@ use Rattle.format.specs.Lines.{digits_of}
 use Rattle.opening.proofs.Digits.{grows, few, next_power, at_power, exactly_all, exactly_short, exactly_misfit, exactly_more}
 use Rattle.opening.proofs.lines.digits_of.Goals as goal
 
-pub with-digit-value-requires : goal.with-digit-value-requires
-with-digit-value-requires c = (few _ (c.args.count - c.loop-left.left) c.loop-left.invariant.3 (omega arith), sym c.if-not-is-digit.ensures)
+pub with_digit-value-requires : goal.with_digit-value-requires
+with_digit-value-requires c = (few _ (c.args.count - c.loop-left.left) c.loop-left.invariant.3 (omega arith), sym c.if-not-is_digit.ensures)
 
 pub returns-then-at-src : goal.returns-then-at-src
 returns-then-at-src c = record {
@@ -12,9 +12,9 @@ returns-then-at-src c = record {
   small = tt;
 }
 
-pub returns-then-not-is-digit : goal.returns-then-not-is-digit
-returns-then-not-is-digit c = record {
-  is = record { is = λ base. exactly_misfit c.args.src.now c.loop-left.left c.loop-left.value c.loop-left.at base (c.loop-left.invariant.4 base) (omega arith) (omega arith) (sym c.if-not-is-digit.ensures); within = tt };
+pub returns-then-not-is_digit : goal.returns-then-not-is_digit
+returns-then-not-is_digit c = record {
+  is = record { is = λ base. exactly_misfit c.args.src.now c.loop-left.left c.loop-left.value c.loop-left.at base (c.loop-left.invariant.4 base) (omega arith) (omega arith) (sym c.if-not-is_digit.ensures); within = tt };
   small = tt;
 }
 
@@ -23,8 +23,8 @@ loop-left-preserved c = (
   omega arith,
   omega arith,
   omega arith,
-  next_power c.loop-left.value _ _ (c.args.count - c.loop-left.left) (c.args.count - (c.loop-left.left - 1)) c.with-digit-value.ensures (omega arith) c.loop-left.invariant.3 (sym c.if-not-is-digit.ensures),
-  λ base. ap (λ m. digits_of (c.loop-left.left - 1) m (base + (c.loop-left.at + 1)) (drop (c.loop-left.at + 1) c.args.src.now)) c.with-digit-value.ensures ∙ exactly_more c.args.src.now c.loop-left.left c.loop-left.value c.loop-left.at base (c.loop-left.invariant.4 base) (omega arith) (omega arith) (sym c.if-not-is-digit.ensures),
+  next_power c.loop-left.value _ _ (c.args.count - c.loop-left.left) (c.args.count - (c.loop-left.left - 1)) c.with_digit-value.ensures (omega arith) c.loop-left.invariant.3 (sym c.if-not-is_digit.ensures),
+  λ base. ap (λ m. digits_of (c.loop-left.left - 1) m (base + (c.loop-left.at + 1)) (drop (c.loop-left.at + 1) c.args.src.now)) c.with_digit-value.ensures ∙ exactly_more c.args.src.now c.loop-left.left c.loop-left.value c.loop-left.at base (c.loop-left.invariant.4 base) (omega arith) (omega arith) (sym c.if-not-is_digit.ensures),
 )
 
 pub returns : goal.returns

@@ -4,16 +4,16 @@ use Rattle.format.specs.Lines.{exact_line}
 use Rattle.opening.proofs.Pieces.{cut, on, passes_from, line_lacks}
 use Rattle.opening.proofs.lines.exact_line.Goals as goal
 
-pub returns-in-err-at : goal.returns-in-err-at
+pub returns-in_err-at : goal.returns-in_err-at
 unfolding exact_line
-returns-in-err-at c =
-    let p = err_from_is_err_and c.from-residual.result c.from-residual.ensures.1 in
-    let z : c.from-residual.result ≡ Err c.in-err-at.field-0.0 = cc in
-    line_lacks _ _ _ _ _ z (λ base. cut _ _ _ (c.in-err-at.ensures.is base))
+returns-in_err-at c =
+    let p = err_from_is_err_and c.from_residual.result c.from_residual.ensures.1 in
+    let z : c.from_residual.result ≡ Err c.in_err-at.field-0.0 = cc in
+    line_lacks _ _ _ _ _ z (λ base. cut _ _ _ (c.in_err-at.ensures.is base))
 
 pub returns : goal.returns
 unfolding exact_line
 returns c = record {
-  is = λ base. on _ _ (c.in-ok-at.ensures.is base) (c.eol.ensures.is base);
-  within = passes_from _ _ c.in-ok-at.at _ c.in-ok-at.ensures.within.0 c.eol.ensures.within;
+  is = λ base. on _ _ (c.in_ok-at.ensures.is base) (c.eol.ensures.is base);
+  within = passes_from _ _ c.in_ok-at.at _ c.in_ok-at.ensures.within.0 c.eol.ensures.within;
 }

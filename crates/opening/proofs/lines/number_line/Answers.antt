@@ -5,31 +5,31 @@ use Rattle.format.specs.Lines.{number_line}
 use Rattle.opening.proofs.Pieces.{cut, on, passes_from, line_lacks}
 use Rattle.opening.proofs.lines.number_line.Goals as goal
 
-pub returns-in-err-number : goal.returns-in-err-number
+pub returns-in_err-number : goal.returns-in_err-number
 unfolding number_line
-returns-in-err-number c =
-    let p = err_from_is_err_and c.from-residual.result c.from-residual.ensures.1 in
-    let z : c.from-residual.result ≡ Err c.in-err-number.field-0.0 = cc in
-    line_lacks _ _ _ _ _ z (λ base. cut _ _ _ (c.in-err-number.ensures.is.is base))
+returns-in_err-number c =
+    let p = err_from_is_err_and c.from_residual.result c.from_residual.ensures.1 in
+    let z : c.from_residual.result ≡ Err c.in_err-number.field-0.0 = cc in
+    line_lacks _ _ _ _ _ z (λ base. cut _ _ _ (c.in_err-number.ensures.is.is base))
 
-pub returns-in-err-end : goal.returns-in-err-end
+pub returns-in_err-end : goal.returns-in_err-end
 unfolding number_line
-returns-in-err-end c =
-    let p = err_from_is_err_and c.from-residual-in-err-end.result c.from-residual-in-err-end.ensures.1 in
-    let z : c.from-residual-in-err-end.result ≡ Err c.in-err-end.field-0.0 = cc in
-    line_lacks _ _ _ _ _ z (λ base. on _ _ (c.in-ok-number.ensures.is.is base) (cut _ _ _ (c.in-err-end.ensures.is base)))
+returns-in_err-end c =
+    let p = err_from_is_err_and c.from_residual-in_err-end.result c.from_residual-in_err-end.ensures.1 in
+    let z : c.from_residual-in_err-end.result ≡ Err c.in_err-end.field-0.0 = cc in
+    line_lacks _ _ _ _ _ z (λ base. on _ _ (c.in_ok-number.ensures.is.is base) (cut _ _ _ (c.in_err-end.ensures.is base)))
 
 pub returns-then-number-n : goal.returns-then-number-n
 unfolding number_line
 returns-then-number-n c =
-    let f = ne_eqb c.in-ok-number.number c.args.n c.if-number-n.true in
-    record { is = λ base. on _ _ (c.in-ok-number.ensures.is.is base) (on _ _ (c.in-ok-end.ensures.is base) (rw f)); within = tt }
+    let f = ne_eqb c.in_ok-number.number c.args.n c.if-number-n.true in
+    record { is = λ base. on _ _ (c.in_ok-number.ensures.is.is base) (on _ _ (c.in_ok-end.ensures.is base) (rw f)); within = tt }
 
 pub returns : goal.returns
 unfolding number_line
 returns c =
-    let e = eq-eqb c.in-ok-number.number c.args.n c.if-number-n.false in
+    let e = eq-eqb c.in_ok-number.number c.args.n c.if-number-n.false in
     record {
-      is = λ base. on _ _ (c.in-ok-number.ensures.is.is base) (on _ _ (c.in-ok-end.ensures.is base) (rw e));
-      within = (omega (arith, c.in-ok-number.ensures.is.within.0, c.in-ok-end.ensures.within.0), c.in-ok-end.ensures.within.1);
+      is = λ base. on _ _ (c.in_ok-number.ensures.is.is base) (on _ _ (c.in_ok-end.ensures.is base) (rw e));
+      within = (omega (arith, c.in_ok-number.ensures.is.within.0, c.in_ok-end.ensures.within.0), c.in_ok-end.ensures.within.1);
     }

@@ -3,6 +3,6 @@ use Rattle.std.proofs.lemmas.Bool.Decides.{nat_tests}
 use Rattle.format.specs.Bytes.{is_digit}
 use Rattle.opening.proofs.lines.with_digit.Goals as goal
 
-pub overflow-sub-result : goal.overflow-sub-result
+pub overflow_sub-result : goal.overflow_sub-result
 unfolding is_digit
-overflow-sub-result c = let h = c.requires.1 in grind (arith, nat_tests)
+overflow_sub-result c = let h = c.requires.1 in grind (arith, nat_tests)
