@@ -6,8 +6,8 @@ use Rattle.replay.proofs.hex.encode.Goals as goal
 
 pub loop-b-preserved : goal.loop-b-preserved
 loop-b-preserved c =
-    let first = c.in-ok-push.ensures.items in
-    let second = c.in-ok-push-2.ensures.items in
+    let first = c.in_ok-push.ensures.items in
+    let second = c.in_ok-push-2.ensures.items in
     let more = encoded_more (vec_items c.args.text.now) c.args.bytes.now c.loop-b.b-index (omega arith) in
     cc
 

@@ -4,7 +4,7 @@ use Rattle.replay.proofs.readings.tokens.Goals as goal
 
 pub loop-found-preserved : goal.loop-found-preserved
 loop-found-preserved c =
-    let ok : is_ok c.push.result ≡ true = c.if-is-err.ensures.negation in
+    let ok : is_ok c.push.result ≡ true = c.if-is_err.ensures.negation in
     let items = simp ok at c.push.ensures.items in
     let told = c.in-Ok.ensures in (
       told.placed.inside,
