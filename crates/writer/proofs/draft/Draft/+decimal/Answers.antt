@@ -17,4 +17,4 @@ returns-then-n-lt10 t c = adds_as c.byte.ensures (sym (decimal_one c.args.n (ome
 
 pub returns-else-n-lt10 : goal.returns-else-n-lt10
 returns-else-n-lt10 t c =
-    adds_as (adds_then c.decimal.ensures (adds_as c.byte-else-n-lt10.ensures (ap (λ (m : ℕ). m ∷ []) c.last-digit.ensures))) (sym (decimal_more c.args.n (omega arith) (omega arith)))
+    adds_as (adds_then c.decimal.ensures (adds_as c.byte-else-n-lt10.ensures (ap (λ (m : ℕ). m ∷ []) c.last_digit.ensures))) (sym (decimal_more c.args.n (omega arith) (omega arith)))

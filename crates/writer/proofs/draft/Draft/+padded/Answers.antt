@@ -8,7 +8,7 @@ pub byte-requires : goal.byte-requires
 byte-requires t c = omega (arith, padded_length (c.args.k - 1) (c.args.n / 10) [])
 
 pub returns-then-k-gt0 : goal.returns-then-k-gt0
-returns-then-k-gt0 t c = adds_as (adds_then c.padded.ensures (adds_as c.byte.ensures (ap (λ (m : ℕ). m ∷ []) c.last-digit.ensures))) (sym (padded_last c.args.k c.args.n (omega arith)))
+returns-then-k-gt0 t c = adds_as (adds_then c.padded.ensures (adds_as c.byte.ensures (ap (λ (m : ℕ). m ∷ []) c.last_digit.ensures))) (sym (padded_last c.args.k c.args.n (omega arith)))
 
 pub returns-else-k-gt0 : goal.returns-else-k-gt0
 returns-else-k-gt0 t c = adds_as (adds_none c.args.self.now) (sym (padded_none c.args.k c.args.n (omega arith)))

@@ -12,7 +12,7 @@ loop-one-init c = adds_as (adds_none c.args.self.now) (sym slots_none)
 
 pub entry-requires : goal.entry-requires
 entry-requires c =
-    let i = c.loop-one.one_Index in
+    let i = c.loop-one.one-index in
     let es = c.args.all.now in
     let l : length (take i es) ≡ i = length-take-le i es (omega arith) in
     let k = entries_length (take i es) in
@@ -20,7 +20,7 @@ entry-requires c =
 
 pub loop-one-preserved : goal.loop-one-preserved
 loop-one-preserved c =
-    adds_as (adds_then c.loop-one.invariant c.entry.ensures) (sym (slots_more c.args.all.now c.loop-one.one_Index _ c.loop-one-test.true))
+    adds_as (adds_then c.loop-one.invariant c.entry.ensures) (sym (slots_more c.args.all.now c.loop-one.one-index _ c.loop-one-test.true))
 
 pub returns : goal.returns
-returns c = adds_as c.loop-one.invariant (ap (λ es. slots_on (slots_of es) []) (take_all c.loop-one.one_Index c.args.all.now c.loop-one-test.false))
+returns c = adds_as c.loop-one.invariant (ap (λ es. slots_on (slots_of es) []) (take_all c.loop-one.one-index c.args.all.now c.loop-one-test.false))

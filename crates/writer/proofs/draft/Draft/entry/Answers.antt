@@ -23,8 +23,8 @@ byte-requires-3 c =
     let k = padded_length 5 c.args.one.generation [] in
     omega arith
 
-pub entry-end-requires : goal.entry-end-requires
-entry-end-requires c =
+pub entry_end-requires : goal.entry_end-requires
+entry_end-requires c =
     let l = padded_length 10 c.args.one.field [] in
     let k = padded_length 5 c.args.one.generation [] in
     omega arith
@@ -32,9 +32,9 @@ entry-end-requires c =
 pub returns : goal.returns
 returns c =
     adds_as
-    (adds_then c.ten-digits.ensures
+    (adds_then c.ten_digits.ensures
     (adds_then c.byte.ensures
     (adds_then c.padded.ensures
     (adds_then c.byte-2.ensures
-    (adds_then (adds_as c.byte-3.ensures (ap (λ (m : ℕ). m ∷ []) (c.mark.ensures ∙ mark_is c.args.one.in_use))) c.entry-end.ensures)))))
+    (adds_then (adds_as c.byte-3.ensures (ap (λ (m : ℕ). m ∷ []) (c.mark.ensures ∙ mark_is c.args.one.in_use))) c.entry_end.ensures)))))
     (slot_parts (slot_of c.args.one))

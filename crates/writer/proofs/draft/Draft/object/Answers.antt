@@ -23,8 +23,8 @@ text-requires c =
     let m = opened_length c.args.generation in
     omega arith
 
-pub object-end-requires : goal.object-end-requires
-object-end-requires c =
+pub object_end-requires : goal.object_end-requires
+object_end-requires c =
     let l = framed_length c.args.number c.args.generation c.args.body.now in
     let k = spaced_length c.args.number in
     let m = opened_length c.args.generation in
@@ -33,5 +33,5 @@ object-end-requires c =
 pub returns : goal.returns
 returns c =
     adds_as
-    (adds_then c.number.ensures (adds_then c.number-2.ensures (adds_then c.text.ensures c.object-end.ensures)))
+    (adds_then c.number.ensures (adds_then c.number-2.ensures (adds_then c.text.ensures c.object_end.ensures)))
     (framed_parts c.args.number c.args.generation c.args.body.now)
