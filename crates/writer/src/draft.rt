@@ -4,7 +4,7 @@ ghost use Rattle.std.specs.Prelude.{◌≤◌, vec_len, vec_capacity};
 mod appends;
 mod digits;
 mod objects;
-mod sections;
+mod section;
 
 // At most `limit` bytes: the memory for them is there.
 #[derive(Drop)]
