@@ -59,7 +59,7 @@ mod tests {
         assert!(rt; flat.len() == 0 && flat.space() == 11);
         assert_eq!(rt; flat.byte_at(0), None);
         flat.append(b"me")?;
-        assert!(rt; flat.into_memory().as_slice() == b"mello, all!");
+        assert!(rt; flat.into_memory().as_slice() == b"mello, all!".as_slice());
         Ok(())
     }
 
@@ -86,7 +86,7 @@ mod tests {
         assert!(rt; &seen == b"o, youl of");
         let middle = top.into_below();
         assert!(rt; middle.len() == 10 && middle.space() == TAIL_SIZE - 5);
-        assert!(rt; middle.into_below().into_memory().as_slice() == b"hello world");
+        assert!(rt; middle.into_below().into_memory().as_slice() == b"hello world".as_slice());
         Ok(())
     }
 
