@@ -150,13 +150,14 @@ unfolding body_answer
 body_fits n None e = refl
 body_fits n (Some f) e = err_ok e
 
-record Putting (r : Revision) (u : Update) (n : ℕ) (b : Bytes) : Type 0 where
-  may : may_put r u n ≡ true
-  fresh : not (is_some (find n u)) ≡ true
-  fits : body_fault b ≡ None
-  room : has_room u (length b) ≡ true
+-- what an accepted put has met
+pub record Putting (r : Revision) (u : Update) (n : ℕ) (b : Bytes) : Type 0 where
+  pub may : may_put r u n ≡ true
+  pub fresh : not (is_some (find n u)) ≡ true
+  pub fits : body_fault b ≡ None
+  pub room : has_room u (length b) ≡ true
 
-putting : (r : Revision) (u : Update) (n : ℕ) (b : Bytes) → decide_put r u n b ≡ Ok tt → Putting r u n b
+pub putting : (r : Revision) (u : Update) (n : ℕ) (b : Bytes) → decide_put r u n b ≡ Ok tt → Putting r u n b
 unfolding decide_put
 putting r u n b e =
     let x = must_ok _ _ _ tt e in
@@ -184,12 +185,25 @@ acceptable_put r u n b a e =
     (λ h. let l = leb-false r.size n h in omega arith) in
     acceptable_with r u n (body b) a p.room (low, within, not-true _ second.1, p.fits)
 
+-- what an accepted remove has met
+pub record Removing (r : Revision) (u : Update) (n : ℕ) : Type 0 where
+  pub used : is_used (nth n r.states) ≡ true
+  pub free : not (eqb n r.root) ≡ true
+  pub fresh : not (is_some (find n u)) ≡ true
+  pub room : has_room u 0 ≡ true
+
+pub removing : (r : Revision) (u : Update) (n : ℕ) → decide_remove r u n ≡ Ok tt → Removing r u n
+unfolding decide_remove
+removing r u n e =
+    let x = must_ok _ _ _ tt e in
+    let y = must_ok _ _ _ tt x.1 in
+    let z = must_ok _ _ _ tt y.1 in
+    let w = must_ok _ _ _ tt z.1 in
+    record { used = x.0; free = y.0; fresh = z.0; room = w.0 }
+
 -- An accepted remove leaves the open update acceptable.
 pub acceptable_remove : (r : Revision) (u : Update) (n : ℕ) → Acceptable r u → decide_remove r u n ≡ Ok tt → Acceptable r (with_change n removed u)
-unfolding decide_remove body_length
+unfolding body_length
 acceptable_remove r u n a e =
-    let x = must_ok (is_used (nth n r.states)) _ _ tt e in
-    let y = must_ok (not (eqb n r.root)) _ _ tt x.1 in
-    let z = must_ok (not (is_some (find n u))) _ _ tt y.1 in
-    let w = must_ok (has_room u 0) _ _ tt z.1 in
-    acceptable_with r u n removed a w.0 (x.0, eqb-false n r.root (not-true _ y.0))
+    let p = removing r u n e in
+    acceptable_with r u n removed a p.room (p.used, eqb-false n r.root (not-true _ p.free))

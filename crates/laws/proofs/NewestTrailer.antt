@@ -111,7 +111,7 @@ window_fits file off s e rest h =
     (λ b. never_reading (rw (b, section_in) at h))
 
 -- the newest of the revisions is made of the last link
-last_made : (file : Bytes) (oldest : Bool) (old : List State) (xs : List Link) (l : Link) (q : Revision) (rs : List Revision) → revisions file oldest old (xs ++ (l ∷ [])) ≡ Ok rs →
+pub last_made : (file : Bytes) (oldest : Bool) (old : List State) (xs : List Link) (l : Link) (q : Revision) (rs : List Revision) → revisions file oldest old (xs ++ (l ∷ [])) ≡ Ok rs →
     (b : Bool) × (ss : List State) × (revision file b ss l ≡ Ok (newest_or q rs))
 unfolding revisions newest_or
 last_made file oldest old [] l q rs h =
