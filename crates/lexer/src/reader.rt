@@ -1,5 +1,5 @@
 // A reader with a place of its own.
-ghost use Rattle.std.specs.Prelude.{◌≡◌, ◌≤◌, length};
+ghost use Rattle.std.specs.Prelude.{◌≡◌, ◌≤◌, min, length};
 ghost use Rattle.lexer.specs.Views.{Tells, PlacedIn, MovesTo};
 
 use crate::token::{Found, token_at};
@@ -19,6 +19,19 @@ impl<'a> Lexer<'a> {
         ensures place { result.place ≡ 0 }
     {
         Lexer { src, place: 0 }
+    }
+
+    // From a place on; past the end of the bytes, from their end.
+    pub fn at(src: &'a [u8], place: usize) -> Lexer<'a>
+        ensures src { result.src.now ≡ src.now }
+        ensures place { result.place ≡ min place (length src.now) }
+    {
+        let end = src.len();
+        if place < end {
+            Lexer { src, place }
+        } else {
+            Lexer { src, place: end }
+        }
     }
 
     // The next token, and the place moves behind it; where there is none, the place stays.

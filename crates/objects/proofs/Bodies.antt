@@ -198,3 +198,7 @@ no_length shapes.Name h = refl
 no_length shapes.Array h = refl
 no_length shapes.Dictionary h = refl
 no_length (shapes.Reference n g) h = refl
+
+-- the end of line behind `stream` is refused
+pub line_refused : (o : Option ℕ) (len w q : ℕ) (ys : Bytes) (f : Fault) → Some len ≡ o → bad f ≡ stream_line q ys → bad f ≡ rest_got o w q ys
+line_refused o len w q ys f e h = let d = sym h in rw (sym e, d) refl

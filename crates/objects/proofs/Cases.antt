@@ -2,6 +2,9 @@
 use Rattle.std.proofs.Common.{◌≡◌, ℕ, ◌<◌, ◌≤◌, Bool, true, false, IfOk, Some, None, Ok, Err, Option, Result, refl, arith}
 use Rattle.faults.specs.declared.fault.Fault.{Fault}
 use Rattle.format.specs.Bytes.{Bytes, Got, ok, bad, then}
+use Rattle.objects.specs.declared.shape.Extent.{Extent}
+use Rattle.objects.specs.declared.shape.Shape.{Shape}
+use Rattle.objects.specs.Steps.{seen, placed}
 
 -- by a test
 pub cases : {P : Type 0} (b : Bool) → (b ≡ true → P) → (b ≡ false → P) → P
@@ -31,3 +34,10 @@ not_both b e f = absurd (let z : ◌≡◌ {A = ℕ} 0 1 = cc in omega arith)
 pub further : (r : Result ℕ Fault) (a b n : ℕ) → b ≤ a → IfOk r (λ q. (a < q) × (q ≤ n)) → IfOk r (λ q. (b < q) × (q ≤ n))
 further (Ok q) a b n h (l, m) = (omega arith, m)
 further (Err f) a b n h l = tt
+
+-- a refusal that is handed up
+pub handed_up : (src : Bytes) (g : Got Unit) (r : Result ℕ Fault) (f : Fault) → r ≡ Err f → bad f ≡ g → placed src r ≡ g
+handed_up src g r f z e = rw z e
+
+pub seen_handed : (src : Bytes) (g : Got Shape) (r : Result Extent Fault) (f : Fault) → r ≡ Err f → bad f ≡ g → seen src r ≡ g
+seen_handed src g r f z e = rw z e

@@ -8,6 +8,7 @@ use Rattle.format.specs.Space.{skip}
 use Rattle.format.specs.Strings.{turns}
 use Rattle.format.specs.Tokens.{start_at, token_at}
 use Rattle.format.specs.Objects.{Reader, Entries, no_entries, of_token, one, object, object_by, next, entry_at, entries}
+use Rattle.format.specs.Frames.{body_at}
 use Rattle.objects.specs.Extents.{entries_by, read_by, reached, find_at, find}
 use Rattle.objects.specs.Shapes.{shaped}
 use Rattle.objects.specs.Nexts.{entry_from, entry_in}
@@ -21,6 +22,14 @@ object_none p = refl
 -- no object starts there
 pub object_past : (src : Bytes) (p : ℕ) → length src ≤ p → bad (object_fault BytesEnd p) ≡ shaped (object p (drop p src))
 object_past src p h = sym (ap shaped (at_drop_all (object p) src p h ∙ object_none p))
+
+body_none : (p : ℕ) → body_at p [] ≡ bad (object_fault BytesEnd p)
+unfolding body_at object object_by one of_token token_at start_at skip
+body_none p = refl
+
+-- no body starts there
+pub body_past : (src : Bytes) (p : ℕ) → length src ≤ p → bad (object_fault BytesEnd p) ≡ bare (body_at p (drop p src))
+body_past src p h = sym (ap bare (at_drop_all (body_at p) src p h ∙ body_none p))
 
 entries_none : (elem : Reader) (p : ℕ) → entries elem turns no_entries p [] ≡ bad (object_fault BytesEnd p)
 unfolding entries entry_at next token_at start_at skip

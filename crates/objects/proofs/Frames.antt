@@ -1,5 +1,5 @@
 -- Frames, part by part.
-use Rattle.std.proofs.Common.{◌≡◌, ℕ, Bool, true, false, eqb, length, drop, Some, None, codes, sym, refl, ap, ◌∙◌, arith}
+use Rattle.std.proofs.Common.{◌≡◌, ℕ, Bool, true, false, eqb, length, drop, IfOk, Some, None, Ok, Err, codes, Result, sym, refl, ap, ◌∙◌, arith}
 use Rattle.std.proofs.lemmas.Bool.{eq-eqb, ne_eqb}
 use Rattle.faults.specs.declared.fault.Fault.{Fault}
 use Rattle.faults.specs.declared.reason.Reason.TheVariants.{BytesEnd, BadFrame}
@@ -15,7 +15,8 @@ use Rattle.lexer.specs.declared.token.Token.TheVariants.{Unsigned, Signed, Real,
 use Rattle.lexer.specs.declared.token.Found.{Found}
 use Rattle.lexer.specs.Views.{kind_of, found_token, token_fault_of}
 use Rattle.objects.specs.Steps.{bare, token_in}
-use Rattle.objects.specs.Framing.{head_of}
+use Rattle.objects.specs.declared.frame.Frame.{Frame}
+use Rattle.objects.specs.Framing.{int_got, head_of, framed, Ordered}
 use Rattle.objects.proofs.Founds.{flawed_kind, found_kind, found_from, no_int, no_word}
 use Rattle.objects.proofs.Cases.{cases}
 
@@ -96,11 +97,11 @@ module _ (src : Bytes) (p : ℕ) (f : Found) (e : token_in src p ≡ found_token
 pub word_no_end : (t : Token) (s : _) → t ≡ Word s → t ≡ End → ⊥
 word_no_end t s e f = let z : ◌≡◌ {A = ℕ} 0 1 = cc in omega arith
 
-bare_bad : {A : Type 0} (r : Got A) (f : Fault) → bad f ≡ bare r → r ≡ bad f
+pub bare_bad : {A : Type 0} (r : Got A) (f : Fault) → bad f ≡ bare r → r ≡ bad f
 bare_bad (ok a q ys) f e = absurd (let z : ◌≡◌ {A = ℕ} 0 1 = cc in omega arith)
 bare_bad (bad g) f e = cc
 
-bare_ok : {A : Type 0} (r : Got A) (q : ℕ) (ys : Bytes) → ok tt q ys ≡ bare r → (a : A) × (r ≡ ok a q ys)
+pub bare_ok : {A : Type 0} (r : Got A) (q : ℕ) (ys : Bytes) → ok tt q ys ≡ bare r → (a : A) × (r ≡ ok a q ys)
 bare_ok (ok a p xs) q ys e = (a, cc)
 bare_ok (bad g) q ys e = absurd (let z : ◌≡◌ {A = ℕ} 0 1 = cc in omega arith)
 
@@ -162,3 +163,10 @@ module _ (src : Bytes) (s : ℕ) (e : skip false 0 (drop 0 src) ≡ (s, drop s s
   pub frame_there : (n q : ℕ) (z : Got Framed) → ok n q (drop q src) ≡ the_int (token_in src 0) → z ≡ head_of n q (drop q src) → z ≡ frame 0 src
   unfolding frame
   frame_there n q z i j = let d = sym i in rw (number_is, d) j
+
+-- a refusal that is handed up
+pub frame_refused : (src : Bytes) (n : ℕ) (r : Result Frame Fault) (f : Fault) (g : Got Framed) → r ≡ Err f → bad f ≡ g → (framed src r ≡ g) × IfOk r (Ordered n)
+frame_refused src n r f g z e = (rw z e, rw z tt)
+
+pub int_handed : (src : Bytes) (g : Got ℕ) (r : Result (ℕ × ℕ) Fault) (f : Fault) → r ≡ Err f → bad f ≡ g → int_got src r ≡ g
+int_handed src g r f z e = rw z e

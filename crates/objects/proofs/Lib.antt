@@ -13,3 +13,11 @@ pub mod Nexts
 pub mod ShiftedTokens
 pub mod ShiftedObjects
 pub mod ShiftedFrames
+pub mod Places
+pub mod PlacesOfTokens
+pub mod PlacesOfObjects
+pub mod PlacesOfFrames
+pub mod FramesMoved
+pub mod ShiftedTrailers
+pub mod Dictionaries
+pub mod EntryByEntry

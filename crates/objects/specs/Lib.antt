@@ -5,4 +5,6 @@ pub mod Steps
 pub mod Nexts
 pub mod Bodies
 pub mod Framing
+pub mod Dictionaries
+pub mod EntryByEntry
 pub mod Theorems

@@ -45,10 +45,10 @@ fn stream_rest(src: &[u8], first: usize, word: usize, behind: usize) -> Result<u
 {
     match length_in(src, first) {
         None => Err(Fault::met(Reason::BadFrame, Layer::Object, word)),
-        Some(len) => match stream_line(src, behind) {
-            Ok(start) => stream_data(src, start, len),
-            Err(fault) => Err(fault),
-        },
+        Some(len) => {
+            let start = stream_line(src, behind)?;
+            stream_data(src, start, len)
+        }
     }
 }
 
@@ -70,8 +70,8 @@ fn stream_word(src: &[u8], from: usize) -> Option<(usize, usize)>
     }
 }
 
-// The object or stream at `from`: the place behind it.
-pub fn body_at(src: &[u8], from: usize) -> Result<usize, Fault>
+// The object or stream at `from`, a place within the bytes: the place behind it.
+pub(crate) fn read_body(src: &[u8], from: usize) -> Result<usize, Fault>
     requires { from ≤ length src.now }
     ensures is { placed src.now result ≡ bare (body_at from (drop from src.now)) }
     ensures within { IfOk result (λ q. (from < q) × (q ≤ length src.now)) }
@@ -79,15 +79,26 @@ pub fn body_at(src: &[u8], from: usize) -> Result<usize, Fault>
     match start_of(src, from) {
         Start::Whole(extent) => Ok(extent.end),
         Start::Array(_, inside) => read_array(src, inside, 31, true),
-        Start::Dictionary(_, inside) => match read_dictionary(src, inside, 31, true) {
-            Ok(end) => match stream_word(src, end) {
+        Start::Dictionary(_, inside) => {
+            let end = read_dictionary(src, inside, 31, true)?;
+            match stream_word(src, end) {
                 Some((word, behind)) => stream_rest(src, inside, word, behind),
                 None => Ok(end),
-            },
-            Err(fault) => Err(fault),
-        },
+            }
+        }
         Start::Refused(fault) => Err(fault),
     }
+}
+
+// The object or stream at `from`: the place behind it.
+pub fn body_at(src: &[u8], from: usize) -> Result<usize, Fault>
+    ensures is { placed src.now result ≡ bare (body_at from (drop from src.now)) }
+    ensures within { IfOk result (λ q. (from < q) × (q ≤ length src.now)) }
+{
+    if from > src.len() {
+        return Err(Fault::met(Reason::BytesEnd, Layer::Object, from));
+    }
+    read_body(src, from)
 }
 
 // Whether white space or a comment stands first.
@@ -111,12 +122,9 @@ pub fn check_body(src: &[u8]) -> Result<(), Fault>
     if starts_loose(src) {
         return Err(Fault::met(Reason::OutsideBody, Layer::Object, 0));
     }
-    match body_at(src, 0) {
-        Ok(end) => if end < src.len() {
-            Err(Fault::met(Reason::OutsideBody, Layer::Object, end))
-        } else {
-            Ok(())
-        },
-        Err(fault) => Err(fault),
+    let end = read_body(src, 0)?;
+    if end < src.len() {
+        return Err(Fault::met(Reason::OutsideBody, Layer::Object, end));
     }
+    Ok(())
 }

@@ -1,11 +1,12 @@
 // An object in the file, in a window of bytes that starts where it does.
-ghost use Rattle.std.specs.Prelude.{◌≡◌, ◌<◌, ◌≤◌, false, length, drop, IfOk};
+ghost use Rattle.std.specs.Prelude.{◌≡◌, ◌+◌, ◌^◌, ◌<◌, ◌≤◌, false, length, drop, IfOk};
 ghost use Rattle.format.specs.Space.{skip};
 ghost use Rattle.format.specs.Frames.{the_int, the_word, framed_body, frame};
-ghost use Rattle.objects.specs.Framing.{int_got, framed, head_of};
+ghost use Rattle.objects.specs.Framing.{int_got, framed, head_of, Ordered, moved_frame, framed_at, FrameLies};
 ghost use Rattle.objects.specs.Steps.{placed, token_in};
 
-use crate::body::body_at;
+use crate::body::read_body;
+use crate::later::later_fault;
 use faults::fault::Fault;
 use faults::layer::Layer;
 use faults::reason::Reason;
@@ -29,13 +30,11 @@ fn the_int(src: &[u8], from: usize) -> Result<(u32, usize), Fault>
     ensures is { int_got src.now result ≡ the_int (token_in src.now from) }
     ensures within { IfOk result (λ x. x.1 ≤ length src.now) }
 {
-    match token_at(src, from) {
-        Ok(found) => match found.token {
-            Token::Unsigned(n) => Ok((n, found.to)),
-            Token::End => Err(Fault::met(Reason::BytesEnd, Layer::Object, found.from)),
-            _ => Err(Fault::met(Reason::BadFrame, Layer::Object, found.from)),
-        },
-        Err(fault) => Err(fault),
+    let found = token_at(src, from)?;
+    match found.token {
+        Token::Unsigned(n) => Ok((n, found.to)),
+        Token::End => Err(Fault::met(Reason::BytesEnd, Layer::Object, found.from)),
+        _ => Err(Fault::met(Reason::BadFrame, Layer::Object, found.from)),
     }
 }
 
@@ -43,66 +42,82 @@ fn the_int(src: &[u8], from: usize) -> Result<(u32, usize), Fault>
 fn the_word(src: &[u8], from: usize, word: &[u8]) -> Result<usize, Fault>
     requires { from ≤ length src.now }
     ensures is { placed src.now result ≡ the_word word.now (token_in src.now from) }
-    ensures within { IfOk result (λ q. q ≤ length src.now) }
+    ensures within { IfOk result (λ q. (from ≤ q) × (q ≤ length src.now)) }
 {
-    match token_at(src, from) {
-        Ok(found) => match found.token {
-            Token::Word(run) => if same_bytes(word, run) {
-                Ok(found.to)
-            } else {
-                Err(Fault::met(Reason::BadFrame, Layer::Object, found.from))
-            },
-            Token::End => Err(Fault::met(Reason::BytesEnd, Layer::Object, found.from)),
-            _ => Err(Fault::met(Reason::BadFrame, Layer::Object, found.from)),
+    let found = token_at(src, from)?;
+    match found.token {
+        Token::Word(run) => if same_bytes(word, run) {
+            Ok(found.to)
+        } else {
+            Err(Fault::met(Reason::BadFrame, Layer::Object, found.from))
         },
-        Err(fault) => Err(fault),
+        Token::End => Err(Fault::met(Reason::BytesEnd, Layer::Object, found.from)),
+        _ => Err(Fault::met(Reason::BadFrame, Layer::Object, found.from)),
     }
 }
 
 // The body behind `obj`, and `endobj`.
 fn frame_body(src: &[u8], number: u32, generation: u32, from: usize) -> Result<Frame, Fault>
     requires { from ≤ length src.now }
-    ensures { framed src.now result ≡ framed_body number generation (skip false from (drop from src.now)) }
+    ensures is { framed src.now result ≡ framed_body number generation (skip false from (drop from src.now)) }
+    ensures within { IfOk result (Ordered (length src.now)) }
 {
     let start = skip_space(src, from);
-    match body_at(src, start) {
-        Ok(end) => match the_word(src, end, b"endobj") {
-            Ok(behind) => Ok(Frame {
-                number,
-                generation,
-                start,
-                end,
-                behind,
-            }),
-            Err(fault) => Err(fault),
-        },
-        Err(fault) => Err(fault),
-    }
+    let end = read_body(src, start)?;
+    let behind = the_word(src, end, b"endobj")?;
+    Ok(Frame {
+        number,
+        generation,
+        start,
+        end,
+        behind,
+    })
 }
 
 // The generation, `obj`, the body and `endobj`, behind the number.
 fn frame_rest(src: &[u8], number: u32, from: usize) -> Result<Frame, Fault>
     requires { from ≤ length src.now }
-    ensures { framed src.now result ≡ head_of number from (drop from src.now) }
+    ensures is { framed src.now result ≡ head_of number from (drop from src.now) }
+    ensures within { IfOk result (Ordered (length src.now)) }
 {
-    match the_int(src, from) {
-        Ok((generation, next)) => match the_word(src, next, b"obj") {
-            Ok(inside) => frame_body(src, number, generation, inside),
-            Err(fault) => Err(fault),
-        },
-        Err(fault) => Err(fault),
-    }
+    let (generation, next) = the_int(src, from)?;
+    let inside = the_word(src, next, b"obj")?;
+    frame_body(src, number, generation, inside)
 }
 
 // The object whose number stands at the first byte: places count from there.
 pub fn read_frame(src: &[u8]) -> Result<Frame, Fault>
-    ensures { framed src.now result ≡ frame 0 src.now }
+    ensures is { framed src.now result ≡ frame 0 src.now }
+    ensures within { IfOk result (Ordered (length src.now)) }
 {
     if skip_space(src, 0) != 0 {
         return Err(Fault::met(Reason::BadFrame, Layer::Object, 0));
     }
-    match the_int(src, 0) {
-        Ok((number, next)) => frame_rest(src, number, next),
-        Err(fault) => Err(fault),
+    let (number, next) = the_int(src, 0)?;
+    frame_rest(src, number, next)
+}
+
+// A frame with every place later by `base`.
+fn later_frame(base: usize, frame: Frame) -> Frame
+    requires { (base + frame.start < 2 ^ 64) × ((base + frame.end < 2 ^ 64) × (base + frame.behind < 2 ^ 64)) }
+    ensures { result ≡ moved_frame base frame }
+{
+    Frame {
+        start: base + frame.start,
+        end: base + frame.end,
+        behind: base + frame.behind,
+        ..frame
+    }
+}
+
+// The object whose number stands at the first byte, which stands at the place `base` of the file: places count in the file.
+pub fn read_frame_at(base: usize, src: &[u8]) -> Result<Frame, Fault>
+    requires { base + length src.now < 2 ^ 64 }
+    ensures is { framed_at base src.now result ≡ frame base src.now }
+    ensures within { IfOk result (FrameLies base (length src.now)) }
+{
+    match read_frame(src) {
+        Ok(frame) => Ok(later_frame(base, frame)),
+        Err(fault) => Err(later_fault(base, fault)),
     }
 }

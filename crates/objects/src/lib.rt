@@ -3,7 +3,9 @@
 
 mod ahead;
 pub mod body;
+pub mod dictionary;
 pub mod frame;
+mod later;
 pub mod object;
 mod read;
 mod reference;

@@ -47,6 +47,7 @@ pub fn value_of(src: &[u8], from: usize, name: &[u8]) -> Option<Value>
 }
 
 // The entry that stands next in a dictionary that was accepted; none where the dictionary closes.
+// From `value.end` on, the next one: they are the entries of the dictionary's tree (`entries_are_listed`).
 pub fn next_entry(src: &[u8], from: usize) -> Option<Entry>
     ensures { result ≡ entry_in src.now from }
 {

@@ -1,5 +1,5 @@
 // Objects, arrays and dictionaries.
-ghost use Rattle.std.specs.Prelude.{◌≡◌, ◌<◌, ◌≤◌, true, false, length, drop, IfOk};
+ghost use Rattle.std.specs.Prelude.{◌≡◌, ◌<◌, ◌≤◌, false, length, drop, IfOk};
 ghost use Rattle.format.specs.Strings.{turns};
 ghost use Rattle.format.specs.Objects.{items, no_entries};
 ghost use Rattle.objects.specs.Shapes.{shaped};
@@ -29,25 +29,21 @@ pub fn read_object(src: &[u8], from: usize, depth: u8, check: bool) -> Result<Ex
             if depth == 0 {
                 return Err(Fault::met(Reason::TooDeep, Layer::Object, mark));
             }
-            match read_array(src, inside, depth - 1, check) {
-                Ok(end) => Ok(Extent {
-                    shape: Shape::Array,
-                    end,
-                }),
-                Err(fault) => Err(fault),
-            }
+            let end = read_array(src, inside, depth - 1, check)?;
+            Ok(Extent {
+                shape: Shape::Array,
+                end,
+            })
         }
         Start::Dictionary(mark, inside) => {
             if depth == 0 {
                 return Err(Fault::met(Reason::TooDeep, Layer::Object, mark));
             }
-            match read_dictionary(src, inside, depth - 1, check) {
-                Ok(end) => Ok(Extent {
-                    shape: Shape::Dictionary,
-                    end,
-                }),
-                Err(fault) => Err(fault),
-            }
+            let end = read_dictionary(src, inside, depth - 1, check)?;
+            Ok(Extent {
+                shape: Shape::Dictionary,
+                end,
+            })
         }
         Start::Refused(fault) => Err(fault),
     }
@@ -64,10 +60,10 @@ pub fn read_array(src: &[u8], from: usize, depth: u8, check: bool) -> Result<usi
     'elements: loop {
         match closing(src, at) {
             Some(end) => return Ok(end),
-            None => match read_object(src, at, depth, check) {
-                Ok(element) => at = element.end,
-                Err(fault) => return Err(fault),
-            },
+            None => {
+                let element = read_object(src, at, depth, check)?;
+                at = element.end;
+            }
         }
     }
 }
@@ -90,10 +86,8 @@ pub fn read_dictionary(src: &[u8], from: usize, depth: u8, check: bool) -> Resul
                     }
                 }
                 let value = skip_space(src, behind);
-                match read_object(src, value, depth, check) {
-                    Ok(extent) => at = extent.end,
-                    Err(fault) => return Err(fault),
-                }
+                let extent = read_object(src, value, depth, check)?;
+                at = extent.end;
             }
             Ahead::Refused(fault) => return Err(fault),
         }

@@ -3,6 +3,7 @@ ghost use Rattle.std.specs.Prelude.{◌≡◌, ◌≤◌, length, if◌then◌el
 ghost use Rattle.objects.specs.Steps.{TakesInt, TakesR, Tries};
 
 use lexer::name::same_bytes;
+use lexer::reader::Lexer;
 use lexer::token::{Token, token_at};
 
 // Puts a place back where it was on every way out, unless what was tried for is found.
@@ -63,21 +64,19 @@ fn take_r(src: &[u8], place: &mut usize) -> bool
     }
 }
 
-// Behind the integer `number`: a generation and `R`, and the place moves behind them; or nothing, and the place stays.
-pub fn try_reference(src: &[u8], place: &mut usize, number: u32) -> Option<u16>
-    requires { place.old ≤ length src.now }
-    ensures is { Tries src.now number place.old place.new result }
+// Behind the integer `number`: a generation and `R`, and the lexer's place moves behind them; or nothing, and the place stays.
+pub fn try_reference(lexer: &mut Lexer<'_>, number: u32) -> Option<u16>
+    ensures is { Tries lexer.old.src.now number lexer.old.place lexer.new.place result }
+    ensures src { lexer.new.src ≡ lexer.old.src }
 {
-    let back = *place;
+    let src = lexer.src;
+    let back = lexer.place;
     let mut trial = Trial {
-        place,
+        place: &mut lexer.place,
         back,
         found: false,
     };
-    let generation = match take_int(src, trial.place) {
-        Some(generation) => generation,
-        None => return None,
-    };
+    let generation = take_int(src, trial.place)?;
     if number < 1 {
         return None;
     }

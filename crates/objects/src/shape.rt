@@ -30,6 +30,7 @@ pub struct Extent {
 }
 
 // An entry of a dictionary: its key from the `/` to the place behind it, and its value.
+// The name's bytes behind the `/`, which `lexer::name` compares by what they spell, are `&src[entry.key + 1..entry.behind]`.
 #[derive(Clone, Copy, Debug, PartialEq, Eq)]
 pub struct Entry {
     pub key: usize,

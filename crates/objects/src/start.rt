@@ -8,6 +8,7 @@ use faults::fault::Fault;
 use faults::layer::Layer;
 use faults::reason::Reason;
 use lexer::name::same_bytes;
+use lexer::reader::Lexer;
 use lexer::token::{Token, token_at};
 
 #[derive(Clone, Copy)]
@@ -58,18 +59,18 @@ pub fn start_of(src: &[u8], from: usize) -> Start
             let end = found.to;
             match found.token {
                 Token::Unsigned(n) => {
-                    let mut place = end;
-                    match try_reference(src, &mut place, n) {
+                    let mut lexer = Lexer::at(src, end);
+                    match try_reference(&mut lexer, n) {
                         Some(generation) => Start::Whole(Extent {
                             shape: Shape::Reference {
                                 number: n,
                                 generation,
                             },
-                            end: place,
+                            end: lexer.place,
                         }),
                         None => Start::Whole(Extent {
                             shape: Shape::Integer(whole(n)),
-                            end: place,
+                            end: lexer.place,
                         }),
                     }
                 }

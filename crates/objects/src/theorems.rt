@@ -1,5 +1,5 @@
 // The theorems on the definitions that the readers rest on.
-ghost use Rattle.objects.specs.Theorems.{Skips, Finds, Shifted};
+ghost use Rattle.objects.specs.Theorems.{Skips, Finds, Lists, Shifted, FaultsLieWithin};
 
 // A reader that does not check keys goes on where the one that does goes on.
 pub fn skipping_agrees() -> u8
@@ -15,9 +15,23 @@ pub fn walks_find() -> u8
     0
 }
 
+// The entries of a dictionary, one by one, are those of its tree.
+pub fn entries_are_listed() -> u8
+    ensures { Lists }
+{
+    0
+}
+
 // A frame is the same where every place is later by as much.
 pub fn places_shift() -> u8
     ensures { Shifted }
+{
+    0
+}
+
+// The place of a fault is one of the bytes that were given, or their end.
+pub fn faults_lie_within() -> u8
+    ensures { FaultsLieWithin }
 {
     0
 }

@@ -1,4 +1,5 @@
-use Rattle.std.proofs.Common.{◌≡◌, Some, sym, ap, ◌∙◌}
+use Rattle.std.proofs.Common.{◌≡◌, Some, Err, sym, ap, ◌∙◌}
+use Rattle.std.proofs.lemmas.Result.{err_from_is_err_and}
 use Rattle.objects.proofs.Bodies.{put_loose, put_bad, put_more, put_all}
 use Rattle.objects.proofs.body.check_body.Goals as goal
 
@@ -6,10 +7,13 @@ pub returns-then-starts_loose : goal.returns-then-starts_loose
 returns-then-starts_loose c = ap Some c.met.ensures ∙ put_loose _ (sym c.if-starts_loose.ensures)
 
 pub returns-then-end-src : goal.returns-then-end-src
-returns-then-end-src c = ap Some c.met-then-end-src.ensures ∙ put_more _ (sym c.if-starts_loose.ensures) _ c.in-Ok.ensures.is c.if-end-src.true
+returns-then-end-src c = ap Some c.met-then-end-src.ensures ∙ put_more _ (sym c.if-starts_loose.ensures) _ c.in_ok-end.ensures.is c.if-end-src.true
 
-pub returns-else-end-src : goal.returns-else-end-src
-returns-else-end-src c = put_all _ (sym c.if-starts_loose.ensures) _ c.in-Ok.ensures.is c.if-end-src.false
+pub returns : goal.returns
+returns c = put_all _ (sym c.if-starts_loose.ensures) _ c.in_ok-end.ensures.is c.if-end-src.false
 
-pub returns-in-Err : goal.returns-in-Err
-returns-in-Err c = put_bad _ (sym c.if-starts_loose.ensures) _ c.in-Err.ensures.is
+pub returns-in_err-end : goal.returns-in_err-end
+returns-in_err-end c =
+    let p = err_from_is_err_and c.from_residual.result c.from_residual.ensures.1 in
+    let z : c.from_residual.result ≡ Err c.in_err-end.field-0.0 = cc in
+    rw z (put_bad _ (sym c.if-starts_loose.ensures) _ c.in_err-end.ensures.is)

@@ -1,10 +1,11 @@
-use Rattle.std.proofs.Common.{◌≡◌, ℕ, ◌<◌, ◌≤◌, true, false, length, drop, is_some, sym, ap, ◌∙◌, arith}
+use Rattle.std.proofs.Common.{◌≡◌, ℕ, ◌<◌, ◌≤◌, true, false, length, drop, is_some, Err, sym, ap, ◌∙◌, arith}
 use Rattle.format.specs.Bytes.{Bytes}
 use Rattle.format.specs.Space.{skip}
 use Rattle.format.specs.Strings.{turns}
 use Rattle.lexer.specs.Spelled.{spelled}
 use Rattle.objects.specs.Steps.{token_in, EndsAt}
-use Rattle.objects.proofs.Cases.{not_both}
+use Rattle.std.proofs.lemmas.Result.{err_from_is_err_and}
+use Rattle.objects.proofs.Cases.{not_both, handed_up, seen_handed}
 use Rattle.objects.proofs.Turns.{elements_all, elements_close, elements_more, elements_fail, Fresh, entered_close, entered_refuse, entered_again, entered_fail, entered_more, walking_stops, walking_closes, walking_refuses, walking_fails, walking_finds, walking_more}
 use Rattle.objects.proofs.Nested.{whole_read, refused_read, array_deep, array_read, array_bad, dict_deep, dict_read, dict_bad}
 use Rattle.objects.proofs.read.+find_value_read_array_read_dictionary_read_object.Goals as goal
@@ -21,12 +22,14 @@ read_array-returns-in-Some t c =
 
 pub read_array-elements-preserved : goal.read_array-elements-preserved
 read_array-elements-preserved t c =
-    let told = c.in-Ok.ensures in
+    let told = c.in_ok-element-in-None.ensures in
     (omega arith, told.within.1, elements_more _ _ _ _ c.elements.invariant.1 _ _ c.in-None.ensures told.is told.within.0 c.elements.invariant.2)
 
-pub read_array-returns-in-Err : goal.read_array-returns-in-Err
-read_array-returns-in-Err t c =
-    record { is = elements_fail _ _ _ _ c.elements.invariant.1 _ c.in-None.ensures c.in-Err.ensures.is c.elements.invariant.2; within = tt }
+pub read_array-returns-in_err-element-in-None : goal.read_array-returns-in_err-element-in-None
+read_array-returns-in_err-element-in-None t c =
+    let p = err_from_is_err_and c.from_residual.result c.from_residual.ensures.1 in
+    let z : c.from_residual.result ≡ Err c.in_err-element-in-None.field-0.0 = cc in
+    record { is = handed_up _ _ _ _ z (elements_fail _ _ _ _ c.elements.invariant.1 _ c.in-None.ensures c.in_err-element-in-None.ensures.is c.elements.invariant.2); within = rw z tt }
 
 pub read_object-returns-then-depth-eq0 : goal.read_object-returns-then-depth-eq0
 read_object-returns-then-depth-eq0 t c = record { is = rw c.met.ensures (array_deep _ _ _ _ _ _ c.in-Array.ensures.0 c.if-depth-eq0.true); within = tt }
@@ -42,29 +45,33 @@ read_object-returns-in-Whole t c =
 pub read_object-returns-in-Refused : goal.read_object-returns-in-Refused
 read_object-returns-in-Refused t c = record { is = refused_read _ _ _ _ _ c.in-Refused.ensures; within = tt }
 
-pub read_object-returns-in-Ok : goal.read_object-returns-in-Ok
-read_object-returns-in-Ok t c =
+pub read_object-returns-in_ok-end-in-Array : goal.read_object-returns-in_ok-end-in-Array
+read_object-returns-in_ok-end-in-Array t c =
     let start = c.in-Array.ensures in
-    let told = c.in-Ok.ensures in
+    let told = c.in_ok-end-in-Array.ensures in
     let low = start.1 in
     let further = told.within.0 in
     record { is = array_read _ _ _ _ _ start.0 _ _ c.if-depth-eq0.false told.is; within = (omega arith, told.within.1) }
 
-pub read_object-returns-in-Err : goal.read_object-returns-in-Err
-read_object-returns-in-Err t c =
-    record { is = array_bad _ _ _ _ _ c.in-Array.ensures.0 _ _ c.if-depth-eq0.false c.in-Err.ensures.is; within = tt }
+pub read_object-returns-in_err-end-in-Array : goal.read_object-returns-in_err-end-in-Array
+read_object-returns-in_err-end-in-Array t c =
+    let p = err_from_is_err_and c.from_residual.result c.from_residual.ensures.1 in
+    let z : c.from_residual.result ≡ Err c.in_err-end-in-Array.field-0.0 = cc in
+    record { is = seen_handed _ _ _ _ z (array_bad _ _ _ _ _ c.in-Array.ensures.0 _ _ c.if-depth-eq0.false c.in_err-end-in-Array.ensures.is); within = rw z tt }
 
-pub read_object-returns-in-Ok-read_dictionary : goal.read_object-returns-in-Ok-read_dictionary
-read_object-returns-in-Ok-read_dictionary t c =
+pub read_object-returns-in_ok-end-in-Dictionary : goal.read_object-returns-in_ok-end-in-Dictionary
+read_object-returns-in_ok-end-in-Dictionary t c =
     let start = c.in-Dictionary.ensures in
-    let told = c.in-Ok-read_dictionary.ensures in
+    let told = c.in_ok-end-in-Dictionary.ensures in
     let low = start.1 in
     let further = told.within.0 in
     record { is = dict_read _ _ _ _ _ start.0 _ _ c.if-depth-eq0-2.false told.is; within = (omega arith, told.within.1) }
 
-pub read_object-returns-in-Err-read_dictionary : goal.read_object-returns-in-Err-read_dictionary
-read_object-returns-in-Err-read_dictionary t c =
-    record { is = dict_bad _ _ _ _ _ c.in-Dictionary.ensures.0 _ _ c.if-depth-eq0-2.false c.in-Err-read_dictionary.ensures.is; within = tt }
+pub read_object-returns-in_err-end-in-Dictionary : goal.read_object-returns-in_err-end-in-Dictionary
+read_object-returns-in_err-end-in-Dictionary t c =
+    let p = err_from_is_err_and c.from_residual-in_err-end-in-Dictionary.result c.from_residual-in_err-end-in-Dictionary.ensures.1 in
+    let z : c.from_residual-in_err-end-in-Dictionary.result ≡ Err c.in_err-end-in-Dictionary.field-0.0 = cc in
+    record { is = seen_handed _ _ _ _ z (dict_bad _ _ _ _ _ c.in-Dictionary.ensures.0 _ _ c.if-depth-eq0-2.false c.in_err-end-in-Dictionary.ensures.is); within = rw z tt }
 
 -- the white space behind a key
 behind_key : (src : Bytes) (p q v : ℕ) → EndsAt src p q → skip false q (drop q src) ≡ (v, drop v src) → skip false (token_in src p).to (token_in src p).rest ≡ (v, drop v src)
@@ -92,7 +99,7 @@ read_dictionary-returns-then-is_some t c =
 pub read_dictionary-entries-preserved : goal.read_dictionary-entries-preserved
 read_dictionary-entries-preserved t c =
     let key = c.in-Key.ensures in
-    let told = c.in-Ok.ensures in
+    let told = c.in_ok-extent-in-Key.ensures in
     let low = key.1.low in
     let mid = c.skip_space-value.ensures.low in
     let far = told.within.0 in
@@ -106,8 +113,10 @@ read_dictionary-entries-preserved t c =
       entered_more _ _ _ _ _ _ c.entries.invariant.1 _ key.0 (omega arith) fresh _ (behind_key _ _ _ _ key.1 c.skip_space-value.ensures.is) _ _ told.is (omega arith) c.entries.invariant.2,
     )
 
-pub read_dictionary-returns-in-Err : goal.read_dictionary-returns-in-Err
-read_dictionary-returns-in-Err t c =
+pub read_dictionary-returns-in_err-extent-in-Key : goal.read_dictionary-returns-in_err-extent-in-Key
+read_dictionary-returns-in_err-extent-in-Key t c =
+    let p = err_from_is_err_and c.from_residual.result c.from_residual.ensures.1 in
+    let z : c.from_residual.result ≡ Err c.in_err-extent-in-Key.field-0.0 = cc in
     let key = c.in-Key.ensures in
     let fresh : Fresh c.args.check c.args.depth c.args.src.now c.args.from c.entries.at (spelled c.in-Key.name.now) =
     elim c.if-check.branch [
@@ -115,8 +124,8 @@ read_dictionary-returns-in-Err t c =
       | read_dictionary-else-check w ↦ λ e. not_both c.args.check e w.if-check.false
     ] in
     record {
-      is = entered_fail _ _ _ _ _ _ c.entries.invariant.1 _ key.0 (omega arith) fresh _ (behind_key _ _ _ _ key.1 c.skip_space-value.ensures.is) _ c.in-Err.ensures.is c.entries.invariant.2;
-      within = tt;
+      is = handed_up _ _ _ _ z (entered_fail _ _ _ _ _ _ c.entries.invariant.1 _ key.0 (omega arith) fresh _ (behind_key _ _ _ _ key.1 c.skip_space-value.ensures.is) _ c.in_err-extent-in-Key.ensures.is c.entries.invariant.2);
+      within = rw z tt;
     }
 
 pub find_value-returns-then-is_reached : goal.find_value-returns-then-is_reached

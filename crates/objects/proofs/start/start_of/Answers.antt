@@ -1,3 +1,5 @@
+use native.Mathlib.Nat.{min-eq_left}
+use Rattle.objects.proofs.References.{tries_at}
 use Rattle.std.proofs.Common.{◌≡◌, ℕ, ◌<◌, ◌≤◌, true, false, length, drop, ℤ, pos, Some, None, sym, refl, ap, ◌∙◌, arith, w32, w64, SFits, to_z, of_z, rules}
 use Rattle.std.proofs.lemmas.Int.{to_z-of_z}
 use Rattle.format.specs.Bytes.{Bytes, Got, ok, bad}
@@ -25,7 +27,8 @@ returns-in-Some c =
     let told = c.in-Ok.ensures in
     let moves : c.in-Ok.found.from < c.in-Ok.found.to = rw c.in-Unsigned.is at told.placed.moves in
     let starts = told.placed.starts in
-    let found = c.in-Some.ensures.is in
+    let there = c.at-lexer.ensures.place ∙ min-eq_left told.placed.inside in
+    let found = tries_at _ _ _ _ _ _ (Some c.in-Some.generation) c.at-lexer.ensures.src there c.in-Some.ensures.is in
     let low = found.1 in (
       (λ A D.
           ap shaped (found_one _ _ _ told.is A D)
@@ -41,7 +44,8 @@ unfolding of_token trial tried
 returns-in-None c =
     let told = c.in-Ok.ensures in
     let moves : c.in-Ok.found.from < c.in-Ok.found.to = rw c.in-Unsigned.is at told.placed.moves in
-    let tried-for = c.in-None.ensures.is in
+    let there = c.at-lexer.ensures.place ∙ min-eq_left told.placed.inside in
+    let tried-for = tries_at _ _ _ _ _ _ None c.at-lexer.ensures.src there c.in-None.ensures.is in
     let stays = tried-for.1 in
     let fits : SFits w64 c.whole.result = search rules in
     let value = to_z-of_z w64 c.whole.result fits ∙ c.whole.ensures in

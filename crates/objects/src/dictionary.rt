@@ -1,0 +1,57 @@
+// A dictionary that has to stand next, as behind the word `trailer`.
+ghost use Rattle.std.specs.Prelude.{◌≡◌, ◌+◌, ◌^◌, ◌<◌, ◌≤◌, length, drop, MatchResult};
+ghost use Rattle.format.specs.Bytes.{bad};
+ghost use Rattle.format.specs.Tokens.{token_at};
+ghost use Rattle.format.specs.Sections.{trailer_at};
+ghost use Rattle.objects.specs.Dictionaries.{Opening, Opened, OpenedAt};
+ghost use Rattle.objects.specs.Steps.{token_in};
+
+use crate::later::later_fault;
+use crate::read::read_dictionary;
+use faults::fault::Fault;
+use faults::layer::Layer;
+use faults::reason::Reason;
+use lexer::token::{Token, token_at};
+
+// A dictionary: the place of its `<<`, the place behind that, where its entries start, and the place behind its `>>`.
+#[derive(Clone, Copy, Debug, PartialEq, Eq)]
+pub struct Dictionary {
+    pub mark: usize,
+    pub inside: usize,
+    pub end: usize,
+}
+
+// The `<<` that has to stand next: its place, and the place behind it.
+fn opening(src: &[u8], from: usize) -> Result<(usize, usize), Fault>
+    requires { from ≤ length src.now }
+    ensures { Opening src.now from result }
+{
+    let found = token_at(src, from)?;
+    match found.token {
+        Token::OpenDict => Ok((found.from, found.to)),
+        Token::End => Err(Fault::met(Reason::BytesEnd, Layer::Object, found.from)),
+        _ => Err(Fault::met(Reason::BadToken, Layer::Object, found.from)),
+    }
+}
+
+// The dictionary that has to stand next.
+fn marked(src: &[u8], from: usize) -> Result<Dictionary, Fault>
+    requires { from ≤ length src.now }
+    ensures { MatchResult result (Opened src.now from) (λ f. trailer_at (token_in src.now from) ≡ bad f) }
+{
+    let (mark, inside) = opening(src, from)?;
+    let end = read_dictionary(src, inside, 31, true)?;
+    Ok(Dictionary { mark, inside, end })
+}
+
+// The dictionary that has to stand next from `from` on, in bytes that start at the place `base` of the file.
+// Its places count in the bytes; the place of a fault counts in the file.
+pub fn dictionary_at(base: usize, src: &[u8], from: usize) -> Result<Dictionary, Fault>
+    requires { (from ≤ length src.now) × (base + length src.now < 2 ^ 64) }
+    ensures { MatchResult result (OpenedAt base src.now from) (λ f. trailer_at (token_at (base + from) (drop from src.now)) ≡ bad f) }
+{
+    match marked(src, from) {
+        Ok(found) => Ok(found),
+        Err(fault) => Err(later_fault(base, fault)),
+    }
+}
