@@ -1,5 +1,5 @@
 -- The fault of a line, by what the line lacks.
-use Rattle.std.proofs.Common.{◌≡◌, ℕ, ◌+◌, ◌≤◌, length, drop, Ok, Err, Result, sym, refl, ap, ◌∙◌, arith, length-drop}
+use Rattle.std.proofs.Common.{◌≡◌, ℕ, ◌+◌, ◌<◌, ◌≤◌, length, drop, IfOk, Ok, Err, Result, sym, refl, ap, ◌∙◌, arith, length-drop}
 use Rattle.faults.specs.declared.fault.Fault.{Fault}
 use Rattle.faults.specs.declared.reason.Reason.TheVariants.{BytesEnd}
 use Rattle.format.specs.Bytes.{Bytes, Got, ok, bad, then, end_of}
@@ -8,7 +8,8 @@ use Rattle.format.specs.Lines.{Piece, took, placed}
 use Rattle.opening.specs.declared.part.Lack.{Lack}
 use Rattle.opening.specs.declared.part.Lack.TheVariants.{Short, Misfit}
 use Rattle.opening.specs.Answers.{line_fault, piece_here, answered, passed_to, EndsWithin}
-use Rattle.opening.specs.Parts.{passed, taken, PassesWithin, Passes, Takes}
+use Rattle.opening.specs.Parts.{passed, taken, PassesWithin, TakesWithin, Passes, Takes, BothBelow}
+use Rattle.opening.specs.Readings.{got_by}
 
 -- the window ends where its bytes from a place on end
 end_is : (src : Bytes) (p base : ℕ) → p ≤ length src → end_of (base + p) (drop p src) ≡ base + length src
@@ -56,3 +57,34 @@ module _ (part : ℕ → Bytes → Piece Unit) (src : Bytes) (p base : ℕ) (r :
 pub ends_from : (src : Bytes) (p q : ℕ) (z : Result ℕ Fault) → p ≤ q → EndsWithin src q z → EndsWithin src p z
 ends_from src p q (Ok x) h w = (omega (arith, w.0), w.1)
 ends_from src p q (Err f) h w = tt
+
+taken_shown : {T A : Type 0} (value : T → A) (src : Bytes) (p base : ℕ) (r : Result (T × ℕ) Lack) → placed (base + p) (drop p src) (taken value base src r) ≡ got_by (λ x. value x.0) (λ x. x.1) base src (answered (placed (base + p) (drop p src) (piece_here r)))
+unfolding placed
+taken_shown value src p base (Ok x) = refl
+taken_shown value src p base (Err Short) = refl
+taken_shown value src p base (Err Misfit) = refl
+
+taken_within : {T : Type 0} (src : Bytes) (p base : ℕ) (r : Result (T × ℕ) Lack) → TakesWithin src p r → IfOk (answered (placed (base + p) (drop p src) (piece_here r))) (λ x. (p ≤ x.1) × (x.1 ≤ length src))
+unfolding placed
+taken_within src p base (Ok x) w = w
+taken_within src p base (Err Short) w = tt
+taken_within src p base (Err Misfit) w = tt
+
+-- the same of a line or an entry with a value
+module _ {T A : Type 0} (value : T → A) (part : ℕ → Bytes → Piece A) (src : Bytes) (p base : ℕ) (r : Result (T × ℕ) Lack) (read : Takes value part src p r) (z : Result (T × ℕ) Fault) (is : z ≡ answered (placed (base + p) (drop p src) (piece_here r))) where
+  pub row_placed : placed (base + p) (drop p src) (part (base + p) (drop p src)) ≡ got_by (λ x. value x.0) (λ x. x.1) base src z
+  row_placed = ap (placed (base + p) (drop p src)) (read.is base) ∙ taken_shown value src p base r ∙ ap (got_by (λ x. value x.0) (λ x. x.1) base src) (sym is)
+
+  pub row_within : IfOk z (λ x. (p ≤ x.1) × (x.1 ≤ length src))
+  row_within = rw is (taken_within src p base r read.within)
+
+-- what was answered was the part's value
+pub part_was : {T : Type 0} (p : ℕ) (xs : Bytes) (r : Result T Lack) (x : T) → Ok x ≡ answered (placed p xs (piece_here r)) → r ≡ Ok x
+unfolding placed
+part_was p xs (Ok y) x e = let f : y ≡ x = cc in ap Ok f
+part_was p xs (Err Short) x e = absurd (let z : ◌≡◌ {A = ℕ} 0 1 = cc in omega arith)
+part_was p xs (Err Misfit) x e = absurd (let z : ◌≡◌ {A = ℕ} 0 1 = cc in omega arith)
+
+-- both numbers of a line lie below a bound
+pub both_below : (n p : ℕ) (xs : Bytes) (r : Result ((ℕ × ℕ) × ℕ) Lack) (x : (ℕ × ℕ) × ℕ) → Ok x ≡ answered (placed p xs (piece_here r)) → BothBelow n r → (x.0.0 < n) × (x.0.1 < n)
+both_below n p xs r x e b = let f : r ≡ Ok x = part_was p xs r x e in rw f at b

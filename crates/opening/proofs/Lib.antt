@@ -6,3 +6,10 @@ pub mod Entries
 pub mod Answered
 pub mod Backwards
 pub mod LastBytes
+pub mod Listing
+pub mod Readings
+pub mod Subs
+pub mod AllSubs
+pub mod Trailers
+pub mod SectionParts
+pub mod Headers

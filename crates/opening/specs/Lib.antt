@@ -1,4 +1,10 @@
 pub mod Answers
 pub mod Backwards
 pub mod Entries
+pub mod Figures
+pub mod Held
 pub mod Parts
+pub mod Readings
+pub mod Subsections
+pub mod Trailers
+pub mod Sections

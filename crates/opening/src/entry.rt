@@ -1,19 +1,12 @@
 // The entries of a subsection.
 ghost use Rattle.std.specs.Prelude.{◌≡◌, ◌≤◌, ◌||◌, length, ◌==◌};
+ghost use Rattle.entries.specs.Rows.{slot_of};
 ghost use Rattle.format.specs.Lines.{slot, use_mark, slot_end, slot_ends};
-ghost use Rattle.opening.specs.Entries.{slot_of};
 ghost use Rattle.opening.specs.Parts.{Passes, Takes};
 
 use crate::lines::{digits_of, exact};
 use crate::part::Lack;
-
-// In use or free; the object's offset or the next free number; the generation.
-#[derive(Clone, Copy, Debug, PartialEq, Eq)]
-pub struct Entry {
-    pub in_use: bool,
-    pub field: u64,
-    pub generation: u32,
-}
+pub use entries::entry::Entry;
 
 // `n` or `f`.
 fn use_mark(src: &[u8], from: usize) -> Result<(bool, usize), Lack>

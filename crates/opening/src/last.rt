@@ -5,7 +5,8 @@ ghost use Rattle.format.specs.Frames.{behind};
 ghost use Rattle.format.specs.Sections.{back_eol, back_digits, last_offset};
 ghost use Rattle.opening.specs.Backwards.{before, back_to, back_taken, BackWithin, BackTakenWithin};
 
-use crate::bytes::is_digit;
+use crate::lines::MOST_DIGITS;
+use lexer::bytes::is_digit;
 
 // The place of the end of line that ends before `at`.
 fn back_eol(src: &[u8], at: usize) -> Option<usize>
@@ -77,7 +78,7 @@ fn back_digits(src: &[u8], at: usize) -> Option<(u64, usize)>
             }
             return Some((value, low));
         }
-        if at - low == 10 {
+        if at - low == MOST_DIGITS {
             return None;
         }
         value = lead_digit(b, power, value);

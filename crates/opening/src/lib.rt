@@ -1,9 +1,16 @@
-// The readers of a cross-reference section over bytes in memory: its lines, its entries and its tail. None of them takes memory.
+// The readers of a cross-reference section over bytes in memory: its lines, its entries, its tail, the whole of it, and what its trailer says. The
+// memory for its rows is taken once.
 #![tactic(auto)]
 
 pub mod bytes;
 pub mod entry;
+pub mod header;
 pub mod last;
 pub mod lines;
 pub mod part;
 pub mod placed;
+pub mod rows;
+pub mod section;
+mod subsections;
+pub mod told;
+pub mod trailer;

@@ -4,8 +4,11 @@ ghost use Rattle.format.specs.Bytes.{is_digit};
 ghost use Rattle.format.specs.Lines.{eol, exact, exact_line, digits, digits_of, sub_line, number_line};
 ghost use Rattle.opening.specs.Parts.{Passes, Takes, Below, BothBelow};
 
-use crate::bytes::is_digit;
 use crate::part::Lack;
+use lexer::bytes::is_digit;
+
+// A number of a line has one to ten digits.
+pub const MOST_DIGITS: usize = 10;
 
 // The place behind the end of line at `from`: CR LF, LF, or CR with no LF behind it.
 pub fn eol(src: &[u8], from: usize) -> Result<usize, Lack>
@@ -78,7 +81,7 @@ pub fn digits(src: &[u8], from: usize) -> Result<(u64, usize), Lack>
             }
             return Ok((value, at));
         }
-        if at - from == 10 {
+        if at - from == MOST_DIGITS {
             return Err(Lack::Misfit);
         }
         value = with_digit(value, b);

@@ -5,7 +5,7 @@ use Rattle.format.specs.Lines.{Slot}
 use Rattle.format.specs.Writing.{decimal, framed_bytes, prev_bytes, Run, run_on, slots_on}
 use Rattle.locality.proofs.Written.{framed_length}
 use Rattle.sections.proofs.Entries.{slots_on_length}
-use Rattle.writer.specs.declared.entry.Entry.{Entry}
+use Rattle.entries.specs.declared.entry.Entry.{Entry}
 use Rattle.writer.specs.Pieces.{slots_of, pair_bytes, size_bytes, close_bytes, line_bytes}
 use Rattle.writer.proofs.Decimals.{decimal_length}
 

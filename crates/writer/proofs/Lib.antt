@@ -1,4 +1,14 @@
+pub mod Changes
+pub mod Copied
 pub mod Decimals
+pub mod Decided
 pub mod Joined
 pub mod Lengths
+pub mod Listing
 pub mod Pieces
+pub mod Planning
+pub mod RunsWritten
+pub mod Tables
+pub mod Updates
+pub mod Weights
+pub mod Written

@@ -5,7 +5,7 @@ use Rattle.format.specs.Lines.{Slot}
 use Rattle.format.specs.Writing.{decimal, padded, framed_bytes, mark_of, slot_bytes, slots_on, Run, run_on, runs_on, is_rewritten, copied, prev_bytes, section_bytes}
 use Rattle.sections.proofs.Digits.{padded_++}
 use Rattle.sections.proofs.Entries.{runs_on_++}
-use Rattle.writer.specs.declared.entry.Entry.{Entry}
+use Rattle.entries.specs.declared.entry.Entry.{Entry}
 use Rattle.writer.specs.Parts.{SectionParts, RunsParts, CopiedParts, Parts}
 use Rattle.writer.specs.Pieces.{slot_of, slots_of, pair_bytes, size_bytes, close_bytes, line_bytes}
 use Rattle.writer.proofs.Lengths.{slots_count}

@@ -2,3 +2,11 @@ pub mod Drafts
 pub mod Pieces
 pub mod Parts
 pub mod Bounds
+pub mod Changes
+pub mod Helds
+pub mod Tables
+pub mod Planned
+pub mod Plans
+pub mod Listing
+pub mod Trailers
+pub mod Writers

@@ -3,11 +3,8 @@ use Rattle.std.specs.Prelude.{ℕ, List, [], ◌∷◌, ◌++◌, map, codes}
 use Rattle.format.specs.Bytes.{Bytes}
 use Rattle.format.specs.Lines.{Slot}
 use Rattle.format.specs.Writing.{decimal}
-use Rattle.writer.specs.declared.entry.Entry.{Entry}
-
--- an entry, as the format has it
-abbrev pub slot_of : Entry → Slot
-slot_of e = record { in_use = e.in_use; field = e.field; gen = e.generation }
+use Rattle.entries.specs.declared.entry.Entry.{Entry}
+pub use Rattle.entries.specs.Rows.{slot_of}
 
 abbrev pub slots_of : List Entry → List Slot
 slots_of es = map slot_of es

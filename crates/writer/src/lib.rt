@@ -1,6 +1,16 @@
-// The bytes of an update, written piece by piece into memory that was taken before.
+// The open update in memory, what is decided of its changes, and the bytes of a whole update, written into memory that was taken before.
 #![tactic(auto)]
 
+pub mod change;
+pub mod decisions;
 pub mod draft;
 pub mod entry;
+pub mod held;
+mod listed;
+mod numbers;
 pub mod parts;
+mod plan;
+mod runs;
+mod table;
+mod trailer;
+pub mod update;

@@ -23,8 +23,8 @@ returns-then-not-is_digit c = record {
   within = omega arith;
 }
 
-pub returns-then-at-low-eq10 : goal.returns-then-at-low-eq10
-returns-then-at-low-eq10 c = record {
+pub returns-then-at-low-eq-MOST_DIGITS : goal.returns-then-at-low-eq-MOST_DIGITS
+returns-then-at-low-eq-MOST_DIGITS c = record {
   is = run_many c.args.src.now c.args.at c.loop-low.low _ _ c.loop-low.invariant.4 (omega arith) (omega arith) (omega arith) (sym c.if-not-is_digit.ensures);
   within = tt;
 }

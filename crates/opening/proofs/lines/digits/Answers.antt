@@ -32,8 +32,8 @@ returns-then-not-is_digit c = record {
   small = bounded _ (c.loop-at.at - c.args.from) c.loop-at.invariant.3 (omega arith);
 }
 
-pub returns-then-at-from-eq10 : goal.returns-then-at-from-eq10
-returns-then-at-from-eq10 c = record {
+pub returns-then-at-from-eq-MOST_DIGITS : goal.returns-then-at-from-eq-MOST_DIGITS
+returns-then-at-from-eq-MOST_DIGITS c = record {
   is = record { is = λ base. digits_many c.args.src.now (c.loop-at.at - c.args.from) c.loop-at.value c.loop-at.at base (c.loop-at.invariant.4 base) (omega arith) (omega arith) (sym c.if-not-is_digit.ensures); within = tt };
   small = tt;
 }

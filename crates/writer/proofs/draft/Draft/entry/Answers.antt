@@ -1,6 +1,6 @@
 use Rattle.std.proofs.Common.{ℕ, [], ◌∷◌, ap, ◌∙◌, arith}
 use Rattle.sections.proofs.Digits.{padded_length}
-use Rattle.writer.specs.Pieces.{slot_of}
+use Rattle.entries.specs.Rows.{slot_of}
 use Rattle.writer.proofs.Joined.{adds_then, adds_as}
 use Rattle.writer.proofs.Pieces.{mark_is, slot_parts}
 use Rattle.writer.proofs.draft.Draft.entry.Goals as goal

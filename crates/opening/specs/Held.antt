@@ -1,0 +1,26 @@
+-- The rows that were read of a section.
+use Rattle.std.specs.Prelude.{ℕ, ◌+◌, ◌*◌, ◌^◌, ◌<◌, ◌≤◌, List, length, vec_items}
+use Rattle.entries.specs.declared.entry.Row.{Row}
+use Rattle.entries.specs.Rows.{rows_of}
+use Rattle.format.specs.Bytes.{Bytes}
+use Rattle.format.specs.Chain.{window_bytes}
+use Rattle.format.specs.Sections.{Listed}
+use Rattle.opening.specs.declared.rows.Rows.{Rows}
+
+abbrev pub rows_held : Rows → List Row
+rows_held rows = vec_items rows.items
+
+-- what they list
+abbrev pub listed_by : Rows → Listed
+listed_by rows = rows_of (rows_held rows)
+
+-- each of them took 20 bytes of those before a place
+abbrev pub HeldBefore : ℕ → Rows → Type 0
+HeldBefore p rows = 20 * length (rows_held rows) ≤ p
+
+-- A window of a section, which begins at the place base of the file, a place in it, and the rows that were read before.
+pub record Window (base : ℕ) (src : Bytes) (from : ℕ) (rows : Rows) : Type 0 where
+  pub counts : base + length src < 2 ^ 64
+  pub few : length src ≤ window_bytes
+  pub place : from ≤ length src
+  pub held : HeldBefore from rows

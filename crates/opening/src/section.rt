@@ -1,0 +1,50 @@
+// A whole section.
+ghost use Rattle.std.specs.Prelude.{◌≡◌, ◌+◌, ◌^◌, ◌<◌, ◌≤◌, length, MatchResult};
+ghost use Rattle.format.specs.Bytes.{bad};
+ghost use Rattle.format.specs.Chain.{window_bytes};
+ghost use Rattle.format.specs.Sections.{section};
+ghost use Rattle.opening.specs.Sections.{SectionRead};
+
+use crate::lines::{exact, exact_line};
+use crate::placed::{placed, tail};
+use crate::rows::Rows;
+use crate::subsections::read_subsections;
+use faults::fault::Fault;
+use lexer::space::skip_space;
+use objects::dictionary::dictionary_at;
+
+// The place behind its tail, where its trailer's `<<` stands and the place behind that, each in the window; and whether it has one subsection only,
+// from 0.
+#[derive(Clone, Copy, Debug, PartialEq, Eq)]
+pub struct Section {
+    pub end: usize,
+    pub mark: usize,
+    pub inside: usize,
+    pub one_from_zero: bool,
+}
+
+// The section that starts at the place `base` of the file, where the window begins; its rows are held then, and no others.
+pub fn read_section(base: usize, src: &[u8], rows: &mut Rows) -> Result<Section, Fault>
+    requires counts { base + length src.now < 2 ^ 64 }
+    requires few { length src.now ≤ window_bytes }
+    ensures { MatchResult result (λ s. SectionRead base src.now s rows.new) (λ f. section base src.now ≡ bad f) }
+{
+    rows.clear();
+    let start = placed(base, src, 0, exact_line(src, 0, b"xref"))?;
+    let subsections = read_subsections(base, src, start, rows)?;
+    let word_end = placed(
+        base,
+        src,
+        subsections.end,
+        exact(src, subsections.end, b"trailer"),
+    )?;
+    let dictionary = dictionary_at(base, src, word_end)?;
+    let tail_start = skip_space(src, dictionary.end);
+    let end = tail(base, src, tail_start, base as u64)?;
+    Ok(Section {
+        end,
+        mark: dictionary.mark,
+        inside: dictionary.inside,
+        one_from_zero: subsections.one_from_zero,
+    })
+}

@@ -1,0 +1,243 @@
+-- The changes kept, and the update that they are.
+use Rattle.std.proofs.Common.{◌≡◌, ℕ, zero, suc, ◌+◌, ◌-◌, ◌<◌, ◌≤◌, Bool, true, false, cond, ◌&&◌, eqb, ltb, leb, List, [], ◌∷◌, ◌++◌, map, length, get_or, take, drop, IfSome, Some, None, Option, sym, refl, ap, ◌∙◌, add-one, arith, length-drop}
+use lib.ListN.{length-map}
+use Rattle.std.specs.Option.{option_map}
+use Rattle.std.specs.List.{insert}
+use Rattle.std.proofs.lemmas.List.{drop_more, drop_at, drop-append-le, take-append-le, take_all}
+use Rattle.std.proofs.lemmas.Bool.{ltb-true, ltb-false, leb-true, leb-false, eq-eqb, ne_eqb, lt-ltb, le-ltb, le-leb, lt-leb, and_parts, and_from, cond-true}
+use Rattle.entries.specs.Cells.{part}
+use Rattle.format.specs.Book.{has_room, most_changes, most_body_bytes}
+use Rattle.format.specs.Bytes.{Bytes}
+use Rattle.format.specs.Revisions.{find}
+use Rattle.format.specs.Updates as format
+use Rattle.format.specs.Updates.{Update, with_change, body_length, body_bytes, new_numbers}
+use Rattle.locality.proofs.Cases.{cases}
+use Rattle.locality.proofs.Tests.{clash}
+use Rattle.writer.specs.declared.change.Change.{Change}
+use Rattle.writer.specs.declared.change.Content.{Content}
+use Rattle.writer.specs.declared.change.Content.TheVariants.{Body, Removed}
+use Rattle.writer.specs.Changes.{content_in, row_in, update_in, pair_of, within, all_within, place_for}
+
+-- the change of a number, as the format has it
+pub found_in : (n : ℕ) (pool : Bytes) (cs : List Change) → option_map (content_in pool) (find n (map pair_of cs)) ≡ find n (update_in pool cs)
+unfolding find
+found_in n pool [] = refl
+found_in n pool (c ∷ cs) =
+    cases (eqb n c.number)
+    (λ e. rw (e, find) refl)
+    (λ e. rw (e, find) (found_in n pool cs))
+
+-- its body lies among the bytes kept
+pub found_kept : (n k : ℕ) (cs : List Change) → all_within k cs ≡ true → IfSome (find n (map pair_of cs)) (λ c. within k c ≡ true)
+unfolding find
+found_kept n k [] h = tt
+found_kept n k (c ∷ cs) h =
+    let p = and_parts (within k c.content) (all_within k cs) h in
+    cases (eqb n c.number)
+    (λ e. rw (e, find) p.0)
+    (λ e. rw (e, find) (found_kept n k cs p.1))
+
+-- the first of what is left is the number's
+pub change_here : (n i : ℕ) (cs : List Change) (d : Change) → i < length cs → n ≡ (get_or cs i d).number → find n (map pair_of (drop i cs)) ≡ Some (get_or cs i d).content
+unfolding find
+change_here n i cs d l h =
+    let e : eqb n (get_or cs i d).number ≡ true = eq-eqb n (get_or cs i d).number h in
+    ap (λ xs. find n (map pair_of xs)) (drop_more cs i d l) ∙ rw (e, find) refl
+
+-- it is another's
+pub change_past : (n i : ℕ) (cs : List Change) (d : Change) → i < length cs → (n ≡ (get_or cs i d).number → ⊥) → find n (map pair_of (drop (i + 1) cs)) ≡ find n (map pair_of (drop i cs))
+unfolding find
+change_past n i cs d l h =
+    let e : eqb n (get_or cs i d).number ≡ false = ne_eqb n (get_or cs i d).number h in
+    sym (ap (λ xs. find n (map pair_of xs)) (drop_more cs i d l) ∙ rw (e, find) refl)
+
+-- the first of what is left has a greater number
+pub place_here : (n i : ℕ) (cs : List Change) (d : Change) → i < length cs → n < (get_or cs i d).number → place_for n (drop i cs) ≡ 0
+place_here n i cs d l h =
+    let e : ltb n (get_or cs i d).number ≡ true = lt-ltb n (get_or cs i d).number h in
+    ap (place_for n) (drop_more cs i d l) ∙ rw (e, place_for) refl
+
+pub place_past : (n i : ℕ) (cs : List Change) (d : Change) → i < length cs → (get_or cs i d).number ≤ n → place_for n (drop i cs) ≡ suc (place_for n (drop (i + 1) cs))
+place_past n i cs d l h =
+    let e : ltb n (get_or cs i d).number ≡ false = le-ltb n (get_or cs i d).number h in
+    ap (place_for n) (drop_more cs i d l) ∙ rw (e, place_for) refl
+
+pub place_end : (n i : ℕ) (cs : List Change) → length cs ≤ i → place_for n (drop i cs) ≡ 0
+place_end n zero [] h = refl
+place_end n (suc i) [] h = refl
+place_end n zero (c ∷ cs) h = absurd (omega arith)
+place_end n (suc i) (c ∷ cs) h = place_end n i cs (omega arith)
+
+-- how many of what is left are new
+pub new_here : (size i : ℕ) (pool : Bytes) (cs : List Change) (d : Change) → i < length cs → size ≤ (get_or cs i d).number → new_numbers size (update_in pool (drop i cs)) ≡ suc (new_numbers size (update_in pool (drop (i + 1) cs)))
+unfolding new_numbers
+new_here size i pool cs d l h =
+    let e : leb size (get_or cs i d).number ≡ true = le-leb size (get_or cs i d).number h in
+    ap (λ xs. new_numbers size (update_in pool xs)) (drop_more cs i d l) ∙ rw (e, new_numbers) refl
+
+pub new_past : (size i : ℕ) (pool : Bytes) (cs : List Change) (d : Change) → i < length cs → (get_or cs i d).number < size → new_numbers size (update_in pool (drop i cs)) ≡ new_numbers size (update_in pool (drop (i + 1) cs))
+unfolding new_numbers
+new_past size i pool cs d l h =
+    let e : leb size (get_or cs i d).number ≡ false = lt-leb size (get_or cs i d).number h in
+    ap (λ xs. new_numbers size (update_in pool xs)) (drop_more cs i d l) ∙ rw (e, new_numbers) refl
+
+pub new_end : (size i : ℕ) (pool : Bytes) (cs : List Change) → length cs ≤ i → new_numbers size (update_in pool (drop i cs)) ≡ 0
+unfolding new_numbers
+new_end size zero pool [] h = refl
+new_end size (suc i) pool [] h = refl
+new_end size zero pool (c ∷ cs) h = absurd (omega arith)
+new_end size (suc i) pool (c ∷ cs) h = new_end size i pool cs (omega arith)
+
+-- no changes
+pub none_within : (k : ℕ) (cs : List Change) → cs ≡ [] → all_within k cs ≡ true
+none_within k cs e = rw e refl
+
+pub none_bytes : (pool : Bytes) (cs : List Change) (n : ℕ) → cs ≡ [] → n ≡ 0 → body_bytes (update_in pool cs) ≡ n
+unfolding body_bytes
+none_bytes pool cs n e f = rw (e, f) refl
+
+pub none_held : (pool : Bytes) (cs : List Change) → cs ≡ [] → update_in pool cs ≡ []
+none_held pool cs e = rw e refl
+
+-- no change of the number, and none of those behind
+none_behind : (n : ℕ) (pool : Bytes) (c : Change) (cs : List Change) → find n (update_in pool (c ∷ cs)) ≡ None → (eqb n c.number ≡ false) × (find n (update_in pool cs) ≡ None)
+unfolding find
+none_behind n pool c cs h =
+    cases (eqb n c.number)
+    (λ e. let f : Some (content_in pool c.content) ≡ None = rw (e, find) at h in clash (cc))
+    (λ e. let f : find n (update_in pool cs) ≡ None = rw (e, find) at h in (e, f))
+
+-- a change set at its place
+pub placed : (n : ℕ) (k : Content) (pool : Bytes) (cs : List Change) → find n (update_in pool cs) ≡ None →
+    update_in pool (insert cs (place_for n cs) (record { number = n; content = k })) ≡ with_change n (content_in pool k) (update_in pool cs)
+unfolding with_change
+placed n k pool [] h = refl
+placed n k pool (c ∷ cs) h =
+    let p = none_behind n pool c cs h in
+    let f : eqb n c.number ≡ false = p.0 in
+    cases (ltb n c.number)
+    (λ e. rw (e, with_change, place_for) refl)
+    (λ e. rw (e, f, with_change, place_for) (ap (λ rs. row_in pool c ∷ rs) (placed n k pool cs p.1)))
+
+-- the place is one of the list
+pub place_within : (n : ℕ) (cs : List Change) → place_for n cs ≤ length cs
+place_within n [] = omega arith
+place_within n (c ∷ cs) =
+    cases (ltb n c.number)
+    (λ e. rw (e, place_for) (omega arith))
+    (λ e. rw (e, place_for) (let h = place_within n cs in omega arith))
+
+-- where more bytes are kept, bodies still lie among them
+stays : (k m : ℕ) (c : Content) → within k c ≡ true → k ≤ m → within m c ≡ true
+stays k m (Body s e) h l =
+    let p = and_parts (leb s e) (leb e k) h in
+    let q = leb-true e k p.1 in
+    and_from (leb s e) (leb e m) p.0 (le-leb e m (omega arith))
+stays k m Removed h l = refl
+
+all_stay : (k m : ℕ) (cs : List Change) → all_within k cs ≡ true → k ≤ m → all_within m cs ≡ true
+all_stay k m [] h l = refl
+all_stay k m (c ∷ cs) h l =
+    let p = and_parts (within k c.content) (all_within k cs) h in
+    and_from (within m c.content) (all_within m cs) (stays k m c.content p.0 l) (all_stay k m cs p.1 l)
+
+one_more : (m i : ℕ) (x : Change) (cs : List Change) → all_within m cs ≡ true → within m x.content ≡ true → all_within m (insert cs i x) ≡ true
+one_more m zero x cs h l = and_from (within m x.content) (all_within m cs) l h
+one_more m (suc i) x [] h l = and_from (within m x.content) true l refl
+one_more m (suc i) x (c ∷ cs) h l =
+    let p = and_parts (within m c.content) (all_within m cs) h in
+    and_from (within m c.content) (all_within m (insert cs i x)) p.0 (one_more m i x cs p.1 l)
+
+-- one change more, with more bytes kept
+pub still_within : (k m i : ℕ) (x : Change) (cs : List Change) → all_within k cs ≡ true → k ≤ m → within m x.content ≡ true → all_within m (insert cs i x) ≡ true
+still_within k m i x cs h l w = one_more m i x cs (all_stay k m cs h l) w
+
+-- a new body lies behind the bytes kept before
+pub new_within : (s e m : ℕ) → s ≤ e → e ≤ m → within m (Body s e) ≡ true
+new_within s e m h l = and_from (leb s e) (leb e m) (le-leb s e h) (le-leb e m l)
+
+-- where more bytes are kept, a body is the same
+same_content : (pool more : Bytes) (c : Content) → within (length pool) c ≡ true → content_in (pool ++ more) c ≡ content_in pool c
+same_content pool more (Body s e) h =
+    let p = and_parts (leb s e) (leb e (length pool)) h in
+    let l = leb-true s e p.0 in
+    let q = leb-true e (length pool) p.1 in
+    let d = length-drop s pool in
+    ap format.body (ap (take (e - s)) (drop-append-le s pool more (omega arith)) ∙ take-append-le (e - s) (drop s pool) more (omega arith))
+same_content pool more Removed h = refl
+
+same_update : (pool more : Bytes) (cs : List Change) → all_within (length pool) cs ≡ true → update_in (pool ++ more) cs ≡ update_in pool cs
+same_update pool more [] h = refl
+same_update pool more (c ∷ cs) h =
+    let p = and_parts (within (length pool) c.content) (all_within (length pool) cs) h in
+    ap (λ x. (c.number, x) ∷ update_in (pool ++ more) cs) (same_content pool more c.content p.0)
+    ∙ ap (λ rs. (c.number, content_in pool c.content) ∷ rs) (same_update pool more cs p.1)
+
+-- the bytes put behind are the new body
+new_part : (pool more : Bytes) (s e : ℕ) → s ≡ length pool → e ≡ s + length more → part (pool ++ more) s e ≡ more
+new_part pool more s e h l = ap (take (e - s)) (drop_at pool more s (sym h)) ∙ take_all (e - s) more (omega arith)
+
+-- a body put: the bytes kept behind the others, the change at its place
+pub body_put : (n s e k : ℕ) (pool more pool' : Bytes) (cs cs' : List Change) →
+    find n (update_in pool cs) ≡ None → all_within k cs ≡ true → k ≡ length pool → s ≡ k → e ≡ s + length more → pool' ≡ pool ++ more →
+    cs' ≡ insert cs (place_for n cs) (record { number = n; content = Body s e }) →
+    update_in pool' cs' ≡ with_change n (format.body more) (update_in pool cs)
+body_put n s e k pool more pool' cs cs' none h len hs he hp hc =
+    let w : all_within (length pool) cs ≡ true = rw len at h in
+    let same = same_update pool more cs w in
+    let none' : find n (update_in (pool ++ more) cs) ≡ None = ap (find n) same ∙ none in
+    let own : content_in (pool ++ more) (Body s e) ≡ format.body more = ap format.body (new_part pool more s e (hs ∙ len) he) in
+    ap (λ p. update_in p cs') hp
+    ∙ ap (update_in (pool ++ more)) hc
+    ∙ placed n (Body s e) (pool ++ more) cs none'
+    ∙ ap (λ c. with_change n c (update_in (pool ++ more) cs)) own
+    ∙ ap (with_change n (format.body more)) same
+
+-- an object removed
+pub body_removed : (n : ℕ) (pool : Bytes) (cs cs' : List Change) → find n (update_in pool cs) ≡ None →
+    cs' ≡ insert cs (place_for n cs) (record { number = n; content = Removed }) →
+    update_in pool cs' ≡ with_change n format.removed (update_in pool cs)
+body_removed n pool cs cs' none hc = ap (update_in pool) hc ∙ placed n Removed pool cs none
+
+-- how many bytes the bodies are with one change more
+pub bytes_with : (n : ℕ) (c : format.Change) (u : Update) → find n u ≡ None → body_bytes (with_change n c u) ≡ body_bytes u + body_length c
+unfolding with_change body_bytes find
+bytes_with n c [] h = omega arith
+bytes_with n c (r ∷ rs) h =
+    cases (eqb n r.0)
+    (λ e. let f : Some r.1 ≡ None = rw (e, find) at h in clash (cc))
+    (λ e.
+    let f : find n rs ≡ None = rw (e, find) at h in
+    cases (ltb n r.0)
+    (λ d. rw (d, with_change) (omega arith))
+    (λ d. rw (d, e, with_change) (let q = bytes_with n c rs f in omega arith)))
+
+-- there is room for one change more
+pub room : (k : ℕ) (pool : Bytes) (cs : List Change) → has_room (update_in pool cs) k ≡ true → (length cs < most_changes) × (body_bytes (update_in pool cs) + k ≤ most_body_bytes)
+unfolding has_room
+room k pool cs h =
+    let u = update_in pool cs in
+    let p = and_parts (ltb (length u) most_changes) (leb (body_bytes u + k) most_body_bytes) h in
+    let l = length-map cs (row_in pool) in
+    let few = ltb-true (length u) most_changes p.0 in
+    (omega arith, leb-true (body_bytes u + k) most_body_bytes p.1)
+
+-- what an insertion that succeeds leaves
+pub set_in : (x : Change) (b : Bool) (cs cs' : List Change) (p q : ℕ) → cs' ≡ cond b (insert cs p x) cs → b ≡ true → p ≡ q → cs' ≡ insert cs q x
+set_in x b cs cs' p q h e f = h ∙ cond-true b (insert cs p x) cs e ∙ ap (λ i. insert cs i x) f
+
+-- whether there is room, by the counts of the update
+pub room_is : (k n m : ℕ) (u : Update) → n ≡ length u → m ≡ body_bytes u → m ≤ most_body_bytes → n < most_changes → leb k (most_body_bytes - m) ≡ has_room u k
+unfolding has_room
+room_is k n m u hn hm small few =
+    let p : ltb (length u) most_changes ≡ true = lt-ltb (length u) most_changes (omega arith) in
+    cases (leb k (most_body_bytes - m))
+    (λ e. let q : leb (body_bytes u + k) most_body_bytes ≡ true = le-leb (body_bytes u + k) most_body_bytes (omega (arith, leb-true k (most_body_bytes - m) e)) in rw (e, p, q) refl)
+    (λ e. let q : leb (body_bytes u + k) most_body_bytes ≡ false = lt-leb (body_bytes u + k) most_body_bytes (omega (arith, leb-false k (most_body_bytes - m) e)) in rw (e, p, q) refl)
+
+pub no_room : (k n : ℕ) (u : Update) → n ≡ length u → most_changes ≤ n → ltb n most_changes ≡ has_room u k
+unfolding has_room
+no_room k n u e h =
+    let p : ltb (length u) most_changes ≡ false = le-ltb (length u) most_changes (omega arith) in
+    let q : ltb n most_changes ≡ false = le-ltb n most_changes h in
+    rw (p, q) refl

@@ -1,0 +1,59 @@
+-- What a table says of a number.
+use Rattle.std.proofs.Common.{◌≡◌, ℕ, zero, suc, ◌+◌, ◌<◌, ◌≤◌, Bool, true, false, not, ◌&&◌, ltb, leb, List, [], ◌∷◌, map, length, get_or, is_some, Some, None, Option, sym, refl, ap, ◌∙◌, arith}
+use Rattle.std.specs.Option.{option_map}
+use Rattle.std.proofs.lemmas.Bool.{lt-leb, le-leb}
+use Rattle.entries.specs.declared.cell.Cell.{Cell}
+use Rattle.entries.specs.Cells.{state_in, states_in}
+use Rattle.format.specs.Book.{is_worn_out, is_used, may_put}
+use Rattle.format.specs.Bytes.{Bytes}
+use Rattle.format.specs.Revisions.{Revision, State, nth}
+use Rattle.format.specs.Updates.{Update, new_numbers}
+use Rattle.format.specs.Writing.{new_size}
+use Rattle.writer.specs.Tables.{TableOf}
+
+pub nth_some : {A : Type 0} (n : ℕ) (xs : List A) (d : A) → n < length xs → nth n xs ≡ Some (get_or xs n d)
+unfolding nth
+nth_some n [] d h = absurd (omega arith)
+nth_some zero (x ∷ xs) d h = refl
+nth_some (suc n) (x ∷ xs) d h = nth_some n xs d (omega arith)
+
+pub nth_none : {A : Type 0} (n : ℕ) (xs : List A) → length xs ≤ n → nth n xs ≡ None
+unfolding nth
+nth_none n [] h = refl
+nth_none zero (x ∷ xs) h = absurd (omega arith)
+nth_none (suc n) (x ∷ xs) h = nth_none n xs (omega arith)
+
+pub nth_map : {A B : Type 0} (f : A → B) (n : ℕ) (xs : List A) → nth n (map f xs) ≡ option_map f (nth n xs)
+unfolding nth
+nth_map f n [] = refl
+nth_map f zero (x ∷ xs) = refl
+nth_map f (suc n) (x ∷ xs) = nth_map f n xs
+
+-- the state of a number, by its cell
+pub state_of : (file : Bytes) (cells : List Cell) (v : Revision) (n : ℕ) (o : Option Cell) → TableOf file cells v → o ≡ nth n cells → nth n v.states ≡ option_map (state_in file) o
+state_of file cells v n o t e = ap (nth n) t.states ∙ nth_map (state_in file) n cells ∙ ap (option_map (state_in file)) (sym e)
+
+-- a number that is not 0 and at most the next new one may be put unless it is free for good
+pub may_worn : (v : Revision) (u : Update) (n : ℕ) (b : Bool) → 1 ≤ n → n ≤ v.size + new_numbers v.size u → b ≡ is_worn_out (nth n v.states) → not b ≡ may_put v u n
+unfolding may_put new_size
+may_worn v u n b h l e =
+    let p : leb 1 n ≡ true = le-leb 1 n h in
+    let q : leb n (v.size + new_numbers v.size u) ≡ true = le-leb n (v.size + new_numbers v.size u) l in
+    rw (p, q) (ap not e)
+
+-- 0 may not be put
+pub may_zero : (v : Revision) (u : Update) (n : ℕ) → n ≡ 0 → false ≡ may_put v u n
+unfolding may_put
+may_zero v u n h = let p : leb 1 n ≡ false = lt-leb 1 n (omega arith) in rw p refl
+
+-- nor may a number past the next new one
+pub may_past : (v : Revision) (u : Update) (n : ℕ) → 1 ≤ n → v.size + new_numbers v.size u < n → false ≡ may_put v u n
+unfolding may_put new_size
+may_past v u n h l =
+    let p : leb 1 n ≡ true = le-leb 1 n h in
+    let q : leb n (v.size + new_numbers v.size u) ≡ false = lt-leb n (v.size + new_numbers v.size u) l in
+    rw (p, q) refl
+
+pub some_mapped : {A B : Type 0} (f : A → B) (o : Option A) → is_some (option_map f o) ≡ is_some o
+some_mapped f None = refl
+some_mapped f (Some x) = refl

@@ -1,0 +1,15 @@
+use Rattle.std.proofs.Common.{◌≡◌, ◌+◌, ◌≤◌}
+use Rattle.format.specs.Bytes.{Bytes}
+use Rattle.writer.specs.Drafts.{count, limit_of}
+use Rattle.writer.specs.Helds.{update_of}
+use Rattle.writer.specs.Plans.{plan_count}
+use Rattle.writer.proofs.Weights.{weight}
+use Rattle.writer.proofs.Written.{Halfway}
+use Rattle.writer.proofs.numbers.write_objects.Given as goal
+
+abbrev pub invariant-loop-n : goal.invariant-loop-n
+invariant-loop-n l =
+    ((file : Bytes) → Halfway file l.cells (update_of l.held) l.len l.size l.n l.initial.draft l.draft l.plan)
+    × (plan_count l.plan ≡ l.n)
+    × (count l.draft + weight l.n (update_of l.held) ≤ 17472)
+    × (limit_of l.draft ≡ limit_of l.initial.draft)

@@ -1,0 +1,57 @@
+use Rattle.std.proofs.Common.{◌≡◌, ◌+◌, [], ◌++◌, length, Some, sym, refl, ap, ◌∙◌, append-nil, arith}
+use Rattle.format.specs.Updates.{new_numbers}
+use Rattle.format.specs.Writing.{object_bytes, runs, section_bytes, update_objects}
+use Rattle.writer.specs.Drafts.{count, written}
+use Rattle.writer.specs.Helds.{update_of}
+use Rattle.writer.specs.Listing.{listed_at}
+use Rattle.writer.specs.Plans.{all_made}
+use Rattle.writer.proofs.Updates.{size_is_fact, objects_are, section_is, update_is}
+use Rattle.writer.proofs.update.bytes.write_update.Goals as goal
+
+pub write_section-requires : goal.write_section-requires
+write_section-requires c =
+    let a = c.clear.ensures.limit in
+    let b = (c.write_objects.ensures.writes []).bytes.limit in
+    let g = c.write_objects.ensures.grown in
+    let n = c.write_objects.ensures.count in
+    let l = c.as_slice.ensures.len in
+    let k = c.len-objects.ensures in
+    let f = c.new_numbers.ensures.few in
+    let s = c.requires.size in
+    let m = c.requires.limit in
+    let x = c.requires.len in
+    let p = c.requires.prev in
+    record { number = omega arith; prev = omega arith; at = omega arith; readable = c.requires.readable; window = c.requires.window; room = omega arith }
+
+pub returns : goal.returns
+returns c =
+    let u = update_of c.args.held.now in
+    let cs = c.args.cells.now in
+    let len = c.args.len in
+    let size = length cs + c.new_numbers.result in
+    let plan = c.as_slice.result.now in
+    let objects = c.len-objects.result in
+    record {
+      bytes = λ file v t p read.
+          let w = c.write_objects.ensures.writes file in
+          let s = c.write_section.ensures v.trailer read in
+          let e = size_is_fact file cs v u size t (ap (λ k. length cs + k) c.new_numbers.ensures.is) in
+          let o : object_bytes 0 (all_made file cs u len size) ≡ update_objects len v u = objects_are file cs v u len size t e in
+          let first : written c.write_objects.new.draft ≡ update_objects len v u = w.bytes.bytes ∙ ap (λ xs. xs ++ object_bytes 0 (all_made file cs u len size)) c.clear.ensures.bytes ∙ o in
+          let g = w.bytes.grown in
+          let z = c.clear.ensures.count in
+          let k = c.len-objects.ensures in
+          let q = ap length o in
+          let count_is : objects ≡ length (update_objects len v u) = omega arith in
+          let rows : plan ≡ _ = c.as_slice.ensures.value ∙ w.rows in
+          let many : length plan ≡ size = c.as_slice.ensures.len ∙ c.write_objects.ensures.count in
+          let section = section_is file cs v u len size (len + objects) c.args.prev plan t e rows (ap (λ i. len + i) count_is) p in (
+            s.bytes
+                ∙ update_is len v u (written c.write_objects.new.draft) _ first
+                (ap (λ i. section_bytes (len + objects) (runs 0 (listed_at plan 0)) v.trailer i (Some c.args.prev)) many ∙ section),
+            count_is,
+          );
+      limit =
+          let s = c.write_section.ensures c.requires.readable.0 c.requires.readable.1 in
+          s.limit ∙ (c.write_objects.ensures.writes []).bytes.limit ∙ c.clear.ensures.limit;
+    }

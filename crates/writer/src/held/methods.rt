@@ -1,0 +1,109 @@
+// Making an open update, asking it, and changing it.
+ghost use Rattle.std.specs.Prelude.{◌≡◌, ◌≤◌, true, [], length, is_some, IfSome, IfOk, None, vec_len};
+ghost use Rattle.std.specs.Option.{option_map};
+ghost use Rattle.entries.specs.Cells.{part};
+ghost use Rattle.format.specs.Book.{has_room, most_changes};
+ghost use Rattle.format.specs.Revisions.{find};
+ghost use Rattle.format.specs.Updates.{body, body_bytes, new_numbers, removed, with_change};
+ghost use Rattle.writer.specs.Changes.{content_in};
+ghost use Rattle.writer.specs.Helds.{Kept, pool_of, update_of};
+
+use super::{Held, MOST_BODY_BYTES, MOST_CHANGES};
+use crate::change::{Change, Content, change_of, count_new, place_for};
+use std::alloc::{AllocError, Global};
+
+impl Held {
+    // No changes, with room for all that an update may have.
+    pub fn new(heap: Global) -> Result<Held, AllocError>
+        ensures { IfOk result (λ h. update_of h ≡ []) }
+    {
+        let changes = Vec::with_capacity(heap, MOST_CHANGES)?;
+        let bodies = Vec::with_capacity(heap, MOST_BODY_BYTES)?;
+        Ok(Held { changes, bodies })
+    }
+
+    // No changes again, in the same memory.
+    pub fn clear(&mut self)
+        ensures { update_of self.new ≡ [] }
+    {
+        self.changes.clear();
+        self.bodies.clear();
+    }
+
+    // How many changes there are.
+    pub fn len(&self) -> usize
+        ensures { result ≡ length (update_of self.now) }
+    {
+        self.changes.len()
+    }
+
+    // How many bytes the bodies have.
+    pub fn body_bytes(&self) -> usize
+        ensures { result ≡ body_bytes (update_of self.now) }
+    {
+        self.bodies.len()
+    }
+
+    // How many numbers are new: they lie from Size on.
+    pub fn new_numbers(&self, size: usize) -> usize
+        ensures is { result ≡ new_numbers size (update_of self.now) }
+        ensures few { result ≤ most_changes }
+    {
+        count_new(&self.changes, size)
+    }
+
+    // The change of a number, if it has one.
+    pub fn find(&self, n: usize) -> Option<Content>
+        ensures is { option_map (content_in (pool_of self.now)) result ≡ find n (update_of self.now) }
+        ensures kept { IfSome result (λ c. Kept self.now c) }
+    {
+        change_of(&self.changes, n)
+    }
+
+    // Whether a number has a change.
+    pub fn has(&self, n: usize) -> bool
+        ensures { result ≡ is_some (find n (update_of self.now)) }
+    {
+        self.find(n).is_some()
+    }
+
+    // Whether there is room for one more change with a body of that length.
+    pub fn has_room(&self, len: usize) -> bool
+        ensures { result ≡ has_room (update_of self.now) len }
+    {
+        self.len() < MOST_CHANGES && len <= MOST_BODY_BYTES - self.body_bytes()
+    }
+
+    // The bytes of a body from its start to its end, as a change gives them.
+    pub fn body(&self, start: usize, end: usize) -> &[u8]
+        requires { Kept self.now (Content.Body start end) }
+        ensures { result.now ≡ part (pool_of self.now) start end }
+    {
+        &self.bodies[start..end]
+    }
+
+    // Puts a body, where the number has no change yet and there is room.
+    pub fn put(&mut self, n: usize, bytes: &[u8])
+        requires free { find n (update_of self.old) ≡ None }
+        requires room { has_room (update_of self.old) (length bytes.now) ≡ true }
+        ensures { update_of self.new ≡ with_change n (body bytes.now) (update_of self.old) }
+    {
+        let place = place_for(&self.changes, n);
+        let start = self.body_bytes();
+        let end = start + bytes.len();
+        let content = Content::Body { start, end };
+        let _ = self.bodies.extend_from_slice(bytes);
+        let _ = self.changes.insert(place, Change { number: n, content });
+    }
+
+    // Removes an object, where the number has no change yet and there is room.
+    pub fn remove(&mut self, n: usize)
+        requires free { find n (update_of self.old) ≡ None }
+        requires room { has_room (update_of self.old) 0 ≡ true }
+        ensures { update_of self.new ≡ with_change n removed (update_of self.old) }
+    {
+        let place = place_for(&self.changes, n);
+        let content = Content::Removed;
+        let _ = self.changes.insert(place, Change { number: n, content });
+    }
+}

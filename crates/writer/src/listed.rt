@@ -1,0 +1,106 @@
+// The entries that an update lists.
+ghost use Rattle.std.specs.Prelude.{◌≡◌, ◌+◌, ◌<◌, ◌≤◌, ◌∷◌, map, length, drop};
+ghost use Rattle.std.specs.Option.{option_map};
+ghost use Rattle.entries.specs.Rows.{slot_of};
+ghost use Rattle.format.specs.Writing.{entry_for, free_slot, next_free};
+ghost use Rattle.writer.specs.Listing.{front, is_free, listed_at};
+ghost use Rattle.writer.specs.Planned.{cell_of};
+
+use crate::plan::Planned;
+use entries::entry::Entry;
+
+// Whether a number is free, as planned.
+fn is_free(one: Planned) -> bool
+    ensures { result ≡ is_free one }
+{
+    match one {
+        Planned::Kept => false,
+        Planned::Vacant {
+            generation: _,
+            next: _,
+        } => true,
+        Planned::Wrote {
+            generation: _,
+            offset: _,
+        } => false,
+        Planned::Freed { generation: _ } => true,
+    }
+}
+
+// The first free number from `from` on, or 0.
+fn next_free(plan: &[Planned], from: usize) -> usize
+    requires { from ≤ length plan.now }
+    ensures { result ≡ next_free from (map cell_of (drop from plan.now)) }
+{
+    let mut n = from;
+    while n < plan.len() {
+        if is_free(plan[n]) {
+            return n;
+        }
+        n += 1;
+    }
+    0
+}
+
+// A free entry.
+fn free_entry(next: u64, generation: u32) -> Entry
+    ensures { slot_of result ≡ free_slot next generation }
+{
+    Entry {
+        in_use: false,
+        field: next,
+        generation,
+    }
+}
+
+// The entry of a number that stays free, if it is listed: 0 is, and each whose next free number changes.
+fn vacant_entry(n: usize, link: u64, generation: u32, next: u64) -> Option<Entry>
+    ensures { option_map slot_of result ≡ entry_for n link (cell_of (Planned.Vacant generation next)) }
+{
+    if n != 0 && link == next {
+        return None;
+    }
+    Some(free_entry(link, generation))
+}
+
+// The entry of a number, if it is listed.
+pub(crate) fn entry_of(plan: &[Planned], n: usize) -> Option<Entry>
+    requires { n < length plan.now }
+    ensures { listed_at plan.now n ≡ option_map slot_of result ∷ listed_at plan.now (n + 1) }
+{
+    match plan[n] {
+        Planned::Kept => None,
+        Planned::Vacant { generation, next } => vacant_entry(
+            n,
+            next_free(plan, n + 1) as u64,
+            generation,
+            next,
+        ),
+        Planned::Wrote { generation, offset } => Some(Entry {
+            in_use: true,
+            field: offset,
+            generation,
+        }),
+        Planned::Freed { generation } => Some(free_entry(
+            next_free(plan, n + 1) as u64,
+            generation,
+        )),
+    }
+}
+
+// The place behind the unbroken run of listed numbers from a number on.
+pub(crate) fn run_end(plan: &[Planned], from: usize) -> usize
+    requires { from ≤ length plan.now }
+    ensures is { result ≡ from + length (front (listed_at plan.now from)) }
+    ensures within { result ≤ length plan.now }
+{
+    let mut n = from;
+    while n < plan.len() {
+        match entry_of(plan, n) {
+            Some(_) => {}
+            None => return n,
+        }
+        n += 1;
+    }
+    n
+}

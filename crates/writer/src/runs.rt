@@ -1,0 +1,70 @@
+// The runs of entries that an update lists.
+ghost use Rattle.std.specs.Prelude.{◌≡◌, ◌+◌, ◌*◌, ◌<◌, ◌≤◌, [], length};
+ghost use Rattle.format.specs.Writing.{run_on, runs, runs_on, slots_on};
+ghost use Rattle.writer.specs.Drafts.{Adds, Room, count};
+ghost use Rattle.writer.specs.Listing.{RunsTo, front, listed_at};
+
+use crate::draft::Draft;
+use crate::listed::{entry_of, run_end};
+use crate::plan::Planned;
+
+// The entries of an unbroken run from a number on: the number behind it.
+fn write_entries(draft: &mut Draft, plan: &[Planned], first: usize) -> usize
+    requires within { first ≤ length plan.now }
+    requires room { Room draft.old (20 * length (front (listed_at plan.now first))) }
+    ensures adds { Adds draft.old (slots_on (front (listed_at plan.now first)) []) draft.new }
+    ensures is { result ≡ first + length (front (listed_at plan.now first)) }
+    ensures within { result ≤ length plan.now }
+{
+    let mut n = first;
+    while n < plan.len() {
+        match entry_of(plan, n) {
+            Some(entry) => draft.entry(entry),
+            None => return n,
+        }
+        n += 1;
+    }
+    n
+}
+
+// An unbroken run from a number on: the number behind it.
+fn write_run(draft: &mut Draft, plan: &[Planned], first: usize) -> usize
+    requires number { first < 1032 }
+    requires size { length plan.now ≤ 1032 }
+    requires within { first ≤ length plan.now }
+    requires room { Room draft.old (22 + 20 * length (front (listed_at plan.now first))) }
+    ensures adds { Adds draft.old (run_on (first, front (listed_at plan.now first)) []) draft.new }
+    ensures is { result ≡ first + length (front (listed_at plan.now first)) }
+    ensures within { result ≤ length plan.now }
+{
+    let end = run_end(plan, first);
+    draft.run_line(first as u32, (end - first) as u64);
+    write_entries(draft, plan, first)
+}
+
+// A number that is not listed, or the run that it begins: the number behind.
+fn write_from(draft: &mut Draft, plan: &[Planned], n: usize) -> usize
+    requires size { length plan.now ≤ 1032 }
+    requires within { n < length plan.now }
+    requires room { Room draft.old (22 + 20 * length (front (listed_at plan.now n))) }
+    ensures runs { RunsTo plan.now n result draft.old draft.new }
+    ensures within { (n < result) × (result ≤ length plan.now) }
+{
+    match entry_of(plan, n) {
+        Some(_) => write_run(draft, plan, n),
+        None => n + 1,
+    }
+}
+
+// All runs of a plan.
+pub(crate) fn write_runs(draft: &mut Draft, plan: &[Planned])
+    requires size { length plan.now ≤ 1032 }
+    requires room { Room draft.old (42 * 1032) }
+    ensures adds { Adds draft.old (runs_on (runs 0 (listed_at plan.now 0)) []) draft.new }
+    ensures grown { count draft.new ≤ count draft.old + 42 * 1032 }
+{
+    let mut n = 0;
+    while n < plan.len() {
+        n = write_from(draft, plan, n);
+    }
+}
