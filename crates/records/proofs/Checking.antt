@@ -1,0 +1,82 @@
+-- What a section lists, check by check; and the section at an offset.
+use Rattle.std.proofs.Common.{◌≡◌, ℕ, ◌<◌, ◌≤◌, Bool, true, false, eqb, List, length, take, drop, ℤ, pos, negsuc, nat_abs, Some, None, Ok, Err, sym, refl, ap, ◌∙◌, arith, le-leb}
+use lib.Signed.{le_z}
+use borrow.Author.Tests.{lt-leb}
+use Rattle.faults.specs.declared.fault.Fault.{Fault}
+use Rattle.faults.specs.declared.reason.Reason.TheVariants.{BytesEnd, BadTrailer, ChainRule, FileBound}
+use Rattle.format.specs.Bytes.{Bytes, Got, ok, bad}
+use Rattle.format.specs.Chain.{window_bytes, Told, told, in_bound, section_in}
+use Rattle.format.specs.Failures.{chain_fault, section_fault}
+use Rattle.format.specs.Revisions.{State, highest, size_is, slots_fit, covered, root_fits}
+use Rattle.format.specs.Sections.{Listed, listed, Section, section}
+use Rattle.tables.proofs.Finds.{true_false}
+use Rattle.records.specs.Links.{link_of, link_at, rows_checked}
+
+-- Size, where it is from 0 on and where it is not
+pub size_in : (z : ℤ) (n : ℕ) → le_z (pos 0) z ≡ true → eqb (nat_abs z) n ≡ size_is z n
+unfolding size_is
+size_in (pos m) n h = refl
+size_in (negsuc m) n h = true_false (sym h)
+
+pub size_out : (z : ℤ) (n : ℕ) → le_z (pos 0) z ≡ false → le_z (pos 0) z ≡ size_is z n
+unfolding size_is
+size_out (pos m) n h = true_false (sym (le-leb 0 m (omega arith)) ∙ h)
+size_out (negsuc m) n h = h
+
+module _ (fits : Bool) (off : ℕ) (t : Told) (new : Listed) (old : List State) where
+  pub check_subs : fits ≡ false → rows_checked fits off t new old ≡ Err (chain_fault ChainRule off 0)
+  unfolding rows_checked
+  check_subs e = rw e refl
+
+  pub check_slots : (f : Fault) → fits ≡ true → slots_fit off t.size new ≡ Err f → rows_checked fits off t new old ≡ Err f
+  unfolding rows_checked
+  check_slots f e s = rw (e, s) refl
+
+  pub check_size : (n : ℕ) → fits ≡ true → slots_fit off t.size new ≡ Ok tt → highest (length old) new ≡ n → size_is t.size n ≡ false → rows_checked fits off t new old ≡ Err (chain_fault ChainRule off 0)
+  unfolding rows_checked
+  check_size n e s h z = rw (e, s, h, z) refl
+
+  pub check_covered : (n : ℕ) → fits ≡ true → slots_fit off t.size new ≡ Ok tt → highest (length old) new ≡ n → size_is t.size n ≡ true → covered n 0 new (length old) ≡ false → rows_checked fits off t new old ≡ Err (chain_fault ChainRule off 0)
+  unfolding rows_checked
+  check_covered n e s h z c = rw (e, s, h, z, c) refl
+
+  pub check_root : (n : ℕ) → fits ≡ true → slots_fit off t.size new ≡ Ok tt → highest (length old) new ≡ n → size_is t.size n ≡ true → covered n 0 new (length old) ≡ true → root_fits t.root t.root_gen new old ≡ false →
+      rows_checked fits off t new old ≡ Err (chain_fault ChainRule off t.root)
+  unfolding rows_checked
+  check_root n e s h z c r = rw (e, s, h, z, c, r) refl
+
+  pub check_ok : (n : ℕ) → fits ≡ true → slots_fit off t.size new ≡ Ok tt → highest (length old) new ≡ n → size_is t.size n ≡ true → covered n 0 new (length old) ≡ true → root_fits t.root t.root_gen new old ≡ true →
+      rows_checked fits off t new old ≡ Ok n
+  unfolding rows_checked
+  check_ok n e s h z c r = rw (e, s, h, z, c, r) refl
+
+-- the section at an offset past the file
+pub section_past : (file : Bytes) (off : ℕ) → length file < off → section_in file off ≡ bad (section_fault BytesEnd (length file))
+unfolding section_in
+section_past file off h = rw (lt-leb off (length file) h, section_in) refl
+
+pub link_past : (file : Bytes) (off : ℕ) → length file < off → link_at file off ≡ Err (section_fault BytesEnd (length file))
+unfolding link_at
+link_past file off h = rw (section_past file off h, link_at) refl
+
+module _ (file : Bytes) (off : ℕ) (src : Bytes) (h : off ≤ length file) (w : src ≡ take window_bytes (drop off file)) where
+  pub section_here : (x : Got Section) → section off src ≡ x → section_in file off ≡ x
+  unfolding section_in
+  section_here x e = rw (le-leb off (length file) h, section_in) (ap (section off) (sym w) ∙ e)
+
+  pub link_bad : (f : Fault) → section off src ≡ bad f → link_at file off ≡ Err f
+  unfolding link_at
+  link_bad f e = rw (section_here (bad f) e, link_at) refl
+
+  module _ (s : Section) (p : ℕ) (rest : Bytes) (e : section off src ≡ ok s p rest) where
+    pub link_high : in_bound (listed s.subsections) ≡ false → link_at file off ≡ Err (chain_fault FileBound 0 0)
+    unfolding link_at link_of
+    link_high b = rw (section_here (ok s p rest) e, link_at) (rw b refl)
+
+    pub link_untold : in_bound (listed s.subsections) ≡ true → told s.trailer ≡ None → link_at file off ≡ Err (section_fault BadTrailer s.marked)
+    unfolding link_at link_of
+    link_untold b t = rw (section_here (ok s p rest) e, link_at) (rw (b, t) refl)
+
+    pub link_told : (t : Told) → in_bound (listed s.subsections) ≡ true → told s.trailer ≡ Some t → link_at file off ≡ Ok (record { sec = s; says = t })
+    unfolding link_at link_of
+    link_told t b q = rw (section_here (ok s p rest) e, link_at) (rw (b, q) refl)

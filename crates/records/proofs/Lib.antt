@@ -1,0 +1,14 @@
+pub mod Answering
+pub mod Listings
+pub mod Laying
+pub mod Filling
+pub mod Reading
+pub mod Tabling
+pub mod Stepping
+pub mod Growing
+pub mod Checking
+pub mod Sectioned
+pub mod Revising
+pub mod Chaining
+pub mod Openings
+pub mod Sizes

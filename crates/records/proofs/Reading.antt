@@ -1,0 +1,157 @@
+-- The objects of a section, row by row.
+use Rattle.std.proofs.Common.{◌≡◌, ℕ, zero, suc, ◌+◌, ◌-◌, ◌^◌, ◌<◌, ◌≤◌, min, true, false, ltb, leb, List, [], ◌∷◌, ◌++◌, length, get_or, take, drop, ℤ, IfOk, Ok, Err, Result, sym, refl, ap, ◌∙◌, append_assoc, arith, length-drop, length-take, ltb-true, eq-eqb}
+use Rattle.std.proofs.lemmas.List.{append-nil, at_drop_more, at_drop_all, drop-drop, take_more, take_all, length-take-le}
+use Rattle.faults.specs.declared.fault.Fault.{Fault}
+use Rattle.faults.specs.declared.reason.Reason.TheVariants.{ChainRule}
+use Rattle.faults.specs.Faults.{of_object}
+use Rattle.format.specs.Bytes.{Bytes, Got, bad}
+use Rattle.format.specs.Chain.{Answer, also, window_bytes}
+use Rattle.format.specs.Failures.{chain_fault}
+use Rattle.format.specs.Frames.{Framed, frame}
+use Rattle.format.specs.Revisions.{State, used, free, slot_fits, slots_fit, frame_in, framed_state, state_of, states_of}
+use Rattle.entries.specs.declared.cell.Cell.{Cell}
+use Rattle.entries.specs.declared.entry.Row.{Row}
+use Rattle.entries.specs.Cells.{part, state_in, EndsBy, AllEndBy}
+use Rattle.entries.specs.Rows.{rows_of, slot_of}
+use Rattle.locality.proofs.Tests.{and_right}
+use Rattle.objects.specs.declared.frame.Frame.{Frame}
+use Rattle.objects.specs.Framing.{framed_at, FrameLies}
+use Rattle.stores.proofs.Windows.{front_window}
+use Rattle.tables.proofs.Answered.{must_ok}
+use Rattle.records.specs.Laid.{cells_with, states_by}
+use Rattle.records.specs.Objects.{state_read, FramedCell}
+use Rattle.records.proofs.Answering.{also_same, also_made}
+use Rattle.records.proofs.Listings.{used_rule}
+
+-- the places of a window are counted in 64 bits where those of the file are
+pub window_counts : (file src : Bytes) (at m : ℕ) → src ≡ take m (drop at file) → length file < 2 ^ 64 → at < 2 ^ 64 → at + length src < 2 ^ 64
+window_counts file src at m w h l =
+    let q = ap length w ∙ length-take m (drop at file) in
+    let d = length-drop at file in
+    omega arith
+
+-- a part of a window is that part of the file
+window_part : (file : Bytes) (at m s e : ℕ) → at ≤ s → e ≤ at + m → take (e - s) (drop (s - at) (take m (drop at file))) ≡ part file s e
+window_part file at m s e a b =
+    let z : at + (s - at) ≡ s = omega arith in
+    front_window (drop at file) m (s - at) (e - s) (omega arith)
+    ∙ ap (take (e - s)) (drop-drop (s - at) at file ∙ ap (λ (k : ℕ). drop k file) z)
+
+module _ (file : Bytes) (off : ℕ) (row : Row) (src : Bytes) (u : row.entry.in_use ≡ true) (w : src ≡ take (min (off - row.entry.field) window_bytes) (drop row.entry.field file)) where
+  -- an entry in use is what its frame says
+  by_frame : (x : Got Framed) → frame row.entry.field src ≡ x → state_of file off row.number (slot_of row.entry) ≡ framed_state off row.number (slot_of row.entry) x
+  unfolding state_of frame_in framed_state
+  by_frame x e =
+      let z : min window_bytes (off - row.entry.field) ≡ min (off - row.entry.field) window_bytes = omega arith in
+      rw (u, state_of) (ap (framed_state off row.number (slot_of row.entry)) (ap (λ (m : ℕ). frame row.entry.field (take m (drop row.entry.field file))) z ∙ ap (frame row.entry.field) (sym w) ∙ e))
+
+  pub frame_refused : (f : Fault) → framed_at row.entry.field src (Err f) ≡ frame row.entry.field src → state_of file off row.number (slot_of row.entry) ≡ Err (of_object row.number f)
+  unfolding framed_state
+  frame_refused f e = by_frame (bad f) (sym e)
+
+  same_body : (f : Frame) → FrameLies row.entry.field (length src) f → take (f.end - f.start) (drop (f.start - row.entry.field) src) ≡ part file f.start f.end
+  same_body f l =
+      let q = ap length w ∙ length-take (min (off - row.entry.field) window_bytes) (drop row.entry.field file) in
+      ap (λ (t : Bytes). take (f.end - f.start) (drop (f.start - row.entry.field) t)) w
+      ∙ window_part file row.entry.field (min (off - row.entry.field) window_bytes) f.start f.end l.0 (omega arith)
+
+  pub frame_read : (f : Frame) (r : Result Cell Fault) → framed_at row.entry.field src (Ok f) ≡ frame row.entry.field src → FrameLies row.entry.field (length src) f → FramedCell off row f r →
+      state_of file off row.number (slot_of row.entry) ≡ state_read file r
+  unfolding framed_state
+  frame_read f (Ok c) e l k =
+      by_frame _ (sym e)
+      ∙ rw (eq-eqb f.number row.number k.0) (rw (eq-eqb f.generation row.entry.generation k.1) (rw k.2 (ap (λ (b : Bytes). Ok (used row.entry.generation b)) (same_body f l))))
+  frame_read f (Err x) e l k = by_frame _ (sym e) ∙ rw (k.0, k.1) refl
+
+  pub frame_ends : (f : Frame) (r : Result Cell Fault) → FrameLies row.entry.field (length src) f → FramedCell off row f r → row.entry.field < off → IfOk r (EndsBy off)
+  frame_ends f (Ok c) l k h =
+      let q = ap length w ∙ length-take (min (off - row.entry.field) window_bytes) (drop row.entry.field file) in
+      rw k.2 (l.1, omega (arith, l.2, l.3))
+  frame_ends f (Err x) l k h = tt
+
+-- a free entry is what it says itself
+pub free_read : (file : Bytes) (off : ℕ) (row : Row) → row.entry.in_use ≡ false → state_of file off row.number (slot_of row.entry) ≡ Ok (free row.entry.generation row.entry.field)
+unfolding state_of
+free_read file off row e = rw (e, state_of) refl
+
+-- the answers of the rows before are those read, and those of the others are still to come
+abbrev pub ReadSo : Bytes → ℕ → List Row → ℕ → List Cell → Type 0
+ReadSo file off rows i cells =
+    states_of file off (rows_of rows) ≡ also (states_of file off (rows_of (drop i rows))) (λ ts. Ok (states_by file (cells_with (take i rows) cells) ++ ts))
+
+cells_push : (rows : List Row) (cells : List Cell) (r : Row) (c : Cell) → length cells ≡ length rows → cells_with (rows ++ r ∷ []) (cells ++ c ∷ []) ≡ cells_with rows cells ++ (r.number, c) ∷ []
+unfolding cells_with
+cells_push [] [] r c h = refl
+cells_push [] (x ∷ xs) r c h = absurd (omega arith)
+cells_push (y ∷ ys) [] r c h = absurd (omega arith)
+cells_push (y ∷ ys) (x ∷ xs) r c h = ap (λ (t : List (ℕ × Cell)). (y.number, x) ∷ t) (cells_push ys xs r c (omega arith))
+
+states_push : (file : Bytes) (cs : List (ℕ × Cell)) (c : ℕ × Cell) → states_by file (cs ++ c ∷ []) ≡ states_by file cs ++ (c.0, state_in file c.1) ∷ []
+unfolding states_by
+states_push file [] c = refl
+states_push file (x ∷ xs) c = ap (λ (t : List (ℕ × State)). (x.0, state_in file x.1) ∷ t) (states_push file xs c)
+
+pub read_start : (file : Bytes) (off : ℕ) (rows : List Row) → ReadSo file off rows 0 []
+unfolding cells_with states_by
+read_start file off rows = also_same (states_of file off (rows_of rows))
+
+module _ (file : Bytes) (off : ℕ) (rows : List Row) (i : ℕ) (d : Row) (h : i < length rows) (cells : List Cell) where
+  states_rest : (t : State) → state_of file off (get_or rows i d).number (slot_of (get_or rows i d).entry) ≡ Ok t →
+      states_of file off (rows_of (drop i rows)) ≡ also (states_of file off (rows_of (drop (i + 1) rows))) (λ ts. Ok (((get_or rows i d).number, t) ∷ ts))
+  unfolding states_of
+  states_rest t e = at_drop_more (λ rs. states_of file off (rows_of rs)) rows i d h ∙ rw e refl
+
+  cells_more : (c : Cell) → length cells ≡ i →
+      states_by file (cells_with (take (i + 1) rows) (cells ++ c ∷ [])) ≡ states_by file (cells_with (take i rows) cells) ++ ((get_or rows i d).number, state_in file c) ∷ []
+  cells_more c l =
+      let k : length cells ≡ length (take i rows) = (let q = length-take-le i rows (omega arith) in omega arith) in
+      ap (λ (rs : List Row). states_by file (cells_with rs (cells ++ c ∷ []))) (take_more rows i d h)
+      ∙ ap (states_by file) (cells_push (take i rows) cells (get_or rows i d) c k)
+      ∙ states_push file (cells_with (take i rows) cells) ((get_or rows i d).number, c)
+
+  read_on : (c : Cell) → length cells ≡ i → state_of file off (get_or rows i d).number (slot_of (get_or rows i d).entry) ≡ Ok (state_in file c) →
+      ReadSo file off rows i cells → ReadSo file off rows (i + 1) (cells ++ c ∷ [])
+  read_on c l e so =
+      so
+      ∙ ap (λ (x : Answer (List (ℕ × State))). also x (λ ts. Ok (states_by file (cells_with (take i rows) cells) ++ ts))) (states_rest (state_in file c) e)
+      ∙ also_made (states_of file off (rows_of (drop (i + 1) rows))) (λ ts. ((get_or rows i d).number, state_in file c) ∷ ts) (λ ts. states_by file (cells_with (take i rows) cells) ++ ts) (λ ts. states_by file (cells_with (take (i + 1) rows) (cells ++ c ∷ [])) ++ ts)
+      (λ ts. sym (append_assoc (states_by file (cells_with (take i rows) cells)) (((get_or rows i d).number, state_in file c) ∷ []) ts) ∙ ap (λ (t : List (ℕ × State)). t ++ ts) (sym (cells_more c l)))
+
+  pub read_stop : (f : Fault) → state_of file off (get_or rows i d).number (slot_of (get_or rows i d).entry) ≡ Err f → ReadSo file off rows i cells → states_of file off (rows_of rows) ≡ Err f
+  unfolding states_of
+  read_stop f e so =
+      let z : states_of file off (rows_of (drop i rows)) ≡ Err f = at_drop_more (λ rs. states_of file off (rows_of rs)) rows i d h ∙ rw e refl in
+      so ∙ ap (λ (x : Answer (List (ℕ × State))). also x (λ ts. Ok (states_by file (cells_with (take i rows) cells) ++ ts))) z
+
+pub read_end : (file : Bytes) (off : ℕ) (rows : List Row) (i : ℕ) (cells : List Cell) → length rows ≤ i → ReadSo file off rows i cells → states_of file off (rows_of rows) ≡ Ok (states_by file (cells_with rows cells))
+unfolding states_of
+read_end file off rows i cells h so =
+    so
+    ∙ ap (λ (x : Answer (List (ℕ × State))). also x (λ ts. Ok (states_by file (cells_with (take i rows) cells) ++ ts))) (at_drop_all (λ rs. states_of file off (rows_of rs)) rows i h)
+    ∙ ap Ok (append-nil _ ∙ ap (λ (rs : List Row). states_by file (cells_with rs cells)) (take_all i rows h))
+
+-- where every entry fits, an entry in use points below its section
+slots_row : (off : ℕ) (size : ℤ) (rows : List Row) (i : ℕ) (d : Row) → slots_fit off size (rows_of rows) ≡ Ok tt → i < length rows → slot_fits off size (get_or rows i d).number (slot_of (get_or rows i d).entry) ≡ true
+unfolding slots_fit
+slots_row off size [] i d e h = absurd (omega arith)
+slots_row off size (r ∷ rs) zero d e h = (must_ok (slot_fits off size r.number (slot_of r.entry)) (chain_fault ChainRule off r.number) (λ _. slots_fit off size (rows_of rs)) tt e).0
+slots_row off size (r ∷ rs) (suc i) d e h = slots_row off size rs i d (must_ok (slot_fits off size r.number (slot_of r.entry)) (chain_fault ChainRule off r.number) (λ _. slots_fit off size (rows_of rs)) tt e).1 (omega arith)
+
+points_below : (off : ℕ) (size : ℤ) (rows : List Row) (i : ℕ) (d : Row) → slots_fit off size (rows_of rows) ≡ Ok tt → i < length rows → (get_or rows i d).entry.in_use ≡ true → (get_or rows i d).entry.field < off
+points_below off size rows i d e h u =
+    let r = get_or rows i d in
+    let s = sym (used_rule off size r.number (slot_of r.entry) u) ∙ slots_row off size rows i d e h in
+    ltb-true r.entry.field off (and_right (leb r.entry.generation 65534) (ltb r.entry.field off) (and_right (leb 1 r.number) _ s))
+
+ends_push : (off : ℕ) (cells : List Cell) (c : Cell) → AllEndBy off cells → EndsBy off c → AllEndBy off (cells ++ c ∷ [])
+ends_push off [] c a e = (e, tt)
+ends_push off (x ∷ xs) c a e = (a.0, ends_push off xs c a.1 e)
+
+-- one row further, with what a loop knows of it
+module _ (file : Bytes) (off : ℕ) (rows : List Row) (i : ℕ) (d : Row) (h : i < length rows) (cells after : List Cell) (c : Cell) (e : after ≡ cells ++ c ∷ []) where
+  pub read_more : length cells ≡ i → state_of file off (get_or rows i d).number (slot_of (get_or rows i d).entry) ≡ Ok (state_in file c) → ReadSo file off rows i cells → ReadSo file off rows (i + 1) after
+  read_more l q so = rw e (read_on file off rows i d h cells c l q so)
+
+  pub ends_more : ((size : ℤ) → slots_fit off size (rows_of rows) ≡ Ok tt → AllEndBy off cells) → (((get_or rows i d).entry.in_use ≡ true → (get_or rows i d).entry.field < off) → EndsBy off c) →
+      (size : ℤ) → slots_fit off size (rows_of rows) ≡ Ok tt → AllEndBy off after
+  ends_more all one size q = rw e (ends_push off cells c (all size q) (one (points_below off size rows i d q h)))

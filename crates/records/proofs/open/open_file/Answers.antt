@@ -1,0 +1,57 @@
+use Rattle.std.proofs.Common.{◌≡◌, [], Err, vec_items, sym, ap, ◌∙◌, arith}
+use Rattle.std.proofs.lemmas.Result.{err_from_is_err_and}
+use Rattle.faults.specs.declared.reason.Reason.TheVariants.{NoTail}
+use Rattle.format.specs.Chain.{walk}
+use Rattle.format.specs.Failures.{chain_fault}
+use Rattle.format.specs.Revisions.{most_revisions}
+use Rattle.records.specs.declared.chain.Ending.TheVariants.{At}
+use Rattle.records.specs.Chained.{may_end}
+use Rattle.records.proofs.Openings.{open_long, open_headless, open_tailless, open_unchained, open_unread, open_read}
+use Rattle.records.proofs.Tabling.{tabled_none}
+use Rattle.records.proofs.open.open_file.Goals as goal
+
+pub returns-then-length-gt-FILE_BYTES : goal.returns-then-length-gt-FILE_BYTES
+returns-then-length-gt-FILE_BYTES g c = record {
+  tabled = tabled_none (vec_items c.clear.new.self.revisions) (vec_items c.clear.new.self.cells) c.clear.ensures.revisions c.clear.ensures.cells;
+  is = open_long (g.S.Store.meaning c.args.store.now).bytes (omega arith) ∙ ap Err (sym c.met.ensures);
+}
+
+pub returns-then-not-has_header : goal.returns-then-not-has_header
+returns-then-not-has_header g c = record {
+  tabled = tabled_none (vec_items c.clear.new.self.revisions) (vec_items c.clear.new.self.cells) c.clear.ensures.revisions c.clear.ensures.cells;
+  is = open_headless (g.S.Store.meaning c.args.store.now).bytes (omega arith) (sym c.if-not-has_header.ensures) ∙ ap Err (sym c.met-then-not-has_header.ensures);
+}
+
+pub returns-in-None : goal.returns-in-None
+returns-in-None g c = record {
+  tabled = tabled_none (vec_items c.clear.new.self.revisions) (vec_items c.clear.new.self.cells) c.clear.ensures.revisions c.clear.ensures.cells;
+  is = open_tailless (g.S.Store.meaning c.args.store.now).bytes (omega arith) (sym c.if-not-has_header.ensures) c.in-None.ensures
+      ∙ ap (λ n. Err (chain_fault NoTail n 0)) (sym c.len-length.ensures) ∙ ap Err (sym c.met-in-None.ensures);
+}
+
+pub returns-in_err-walk-in-Some : goal.returns-in_err-walk-in-Some
+returns-in_err-walk-in-Some g c =
+    let p = err_from_is_err_and c.from_residual.result c.from_residual.ensures.1 in
+    let z : c.from_residual.result ≡ Err c.in_err-walk-in-Some.field-0.0 = cc in
+    rw z (record {
+      tabled = tabled_none (vec_items c.clear.new.self.revisions) (vec_items c.clear.new.self.cells) c.clear.ensures.revisions c.clear.ensures.cells;
+      is = open_unchained (g.S.Store.meaning c.args.store.now).bytes (omega arith) (sym c.if-not-has_header.ensures) c.in-Some.newest c.in-Some.ensures c.in_err-walk-in-Some.field-0.0 (ap (λ n. walk most_revisions (g.S.Store.meaning c.args.store.now).bytes c.in-Some.newest (may_end (At n)) []) (sym c.len-length.ensures) ∙ c.in_err-walk-in-Some.ensures.is);
+    })
+
+pub returns-in_err-read_revisions-in-Some : goal.returns-in_err-read_revisions-in-Some
+returns-in_err-read_revisions-in-Some g c =
+    let p = err_from_is_err_and c.from_residual-in_err-read_revisions-in-Some.result c.from_residual-in_err-read_revisions-in-Some.ensures.1 in
+    let z : c.from_residual-in_err-read_revisions-in-Some.result ≡ Err c.in_err-read_revisions-in-Some.field-0.0 = cc in
+    let w = c.in_ok-walk-in-Some.ensures.is in
+    rw z (record {
+      tabled = c.in_err-read_revisions-in-Some.ensures.tabled;
+      is = open_unread (g.S.Store.meaning c.args.store.now).bytes (omega arith) (sym c.if-not-has_header.ensures) c.in-Some.newest c.in-Some.ensures w.0 (ap (λ n. walk most_revisions (g.S.Store.meaning c.args.store.now).bytes c.in-Some.newest (may_end (At n)) []) (sym c.len-length.ensures) ∙ w.1) c.in_err-read_revisions-in-Some.field-0.0 (c.in_err-read_revisions-in-Some.ensures.is w.0 w.2);
+    })
+
+pub returns-in_ok-read_revisions-in-Some : goal.returns-in_ok-read_revisions-in-Some
+returns-in_ok-read_revisions-in-Some g c =
+    let w = c.in_ok-walk-in-Some.ensures.is in
+    record {
+      tabled = c.in_ok-read_revisions-in-Some.ensures.tabled;
+      is = open_read (g.S.Store.meaning c.args.store.now).bytes (omega arith) (sym c.if-not-has_header.ensures) c.in-Some.newest c.in-Some.ensures w.0 (ap (λ n. walk most_revisions (g.S.Store.meaning c.args.store.now).bytes c.in-Some.newest (may_end (At n)) []) (sym c.len-length.ensures) ∙ w.1) c.len.result (vec_items c.read_revisions.new.tables.revisions) (vec_items c.read_revisions.new.tables.cells) c.len.ensures (c.in_ok-read_revisions-in-Some.ensures.is w.0 w.2);
+    }

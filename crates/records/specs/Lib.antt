@@ -1,0 +1,9 @@
+pub mod Chained
+pub mod Laid
+pub mod Linked
+pub mod Links
+pub mod Listing
+pub mod Objects
+pub mod Tabled
+pub mod Trailers
+pub mod Windows

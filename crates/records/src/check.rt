@@ -1,0 +1,61 @@
+// The checks of what a section lists, in their order.
+ghost use Rattle.std.specs.Prelude.{◌≡◌, ◌≤◌, true, cond, length, IfOk, Ok, OnOk};
+ghost use Rattle.format.specs.Bytes.{Bytes};
+ghost use Rattle.format.specs.Chain.{in_bound};
+ghost use Rattle.format.specs.Revisions.{covered, size_is, slots_fit};
+ghost use Rattle.entries.specs.Cells.{states_in};
+ghost use Rattle.entries.specs.Rows.{rows_of};
+ghost use Rattle.records.specs.Linked.{told_by};
+ghost use Rattle.records.specs.Links.{rows_checked};
+
+use crate::root::root_fits;
+use crate::rows::{broken_rule, covered, highest, slots_fit};
+use entries::cell::Cell;
+use entries::entry::Row;
+use faults::fault::Fault;
+use opening::told::Told;
+
+// The oldest section has one subsection, from 0.
+pub fn subsections_fit(oldest: bool, one_from_zero: bool) -> bool
+    ensures { result ≡ cond oldest one_from_zero true }
+{
+    if oldest { one_from_zero } else { true }
+}
+
+fn size_is(told: i64, size: usize) -> bool
+    ensures { result ≡ size_is told size }
+{
+    told >= 0 && told as u64 == size as u64
+}
+
+// The Size, where the entries, Size and Root fit, and the subsections do as `fits` says; `old` is the table before.
+pub fn check_rows(
+    fits: bool,
+    offset: usize,
+    told: Told,
+    rows: &[Row],
+    old: &[Cell],
+) -> Result<usize, Fault>
+    requires bound { in_bound (rows_of rows.now) ≡ true }
+    requires small { length old.now ≤ 1000 }
+    ensures is { (file : Bytes) → result ≡ rows_checked fits offset (told_by told) (rows_of rows.now) (states_in file old.now) }
+    ensures small { IfOk result (λ n. n ≤ 1000) }
+    ensures covered { IfOk result (λ n. covered n 0 (rows_of rows.now) (length old.now) ≡ true) }
+    ensures fits { OnOk result (slots_fit offset told.size (rows_of rows.now) ≡ Ok tt) }
+{
+    if !fits {
+        return Err(broken_rule(offset, 0));
+    }
+    slots_fit(offset, told.size, rows)?;
+    let size = highest(old.len(), rows);
+    if !size_is(told.size, size) {
+        return Err(broken_rule(offset, 0));
+    }
+    if !covered(size, rows, old.len()) {
+        return Err(broken_rule(offset, 0));
+    }
+    if !root_fits(told.root, told.root_generation, rows, old) {
+        return Err(broken_rule(offset, told.root as usize));
+    }
+    Ok(size)
+}

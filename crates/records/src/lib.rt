@@ -1,0 +1,17 @@
+// Opening a file that lies in a store: its chain of sections, and the table of each revision.
+#![tactic(auto)]
+
+mod chain;
+mod check;
+mod link;
+mod objects;
+pub mod open;
+pub mod revision;
+mod root;
+mod rows;
+pub mod scratch;
+mod section;
+mod table;
+pub mod tables;
+pub mod trailer;
+mod window;

@@ -1,0 +1,90 @@
+// The objects that a section lists.
+ghost use Rattle.std.specs.Prelude.{◌≡◌, ◌^◌, ◌<◌, ◌≤◌, true, length, IfOk, vec_capacity};
+ghost use Rattle.format.specs.Revisions.{state_of};
+ghost use Rattle.entries.specs.Cells.{EndsBy};
+ghost use Rattle.entries.specs.Rows.{slot_of};
+ghost use Rattle.records.specs.Objects.{FramedCell, ReadsObjects, state_read};
+
+use crate::rows::broken_rule;
+use crate::window::Window;
+use entries::cell::Cell;
+use entries::entry::Row;
+use faults::fault::Fault;
+use objects::frame::{Frame, read_frame_at};
+use stores::store::Store;
+
+// The cell of an object that was read for a row of a section at `offset`: it bears the row's number and generation.
+fn framed_cell(offset: usize, row: Row, frame: Frame) -> Result<Cell, Fault>
+    ensures { FramedCell offset row frame result }
+{
+    if frame.number as u64 != row.number || frame.generation != row.entry.generation {
+        return Err(broken_rule(offset, row.number as usize));
+    }
+    Ok(Cell::Used {
+        generation: row.entry.generation,
+        start: frame.start,
+        end: frame.end,
+    })
+}
+
+// The cell of an entry in use: its object is read through the window, and never past the section's start.
+fn used_cell<S: Store>(
+    store: &S,
+    window: &mut Window,
+    offset: usize,
+    row: Row,
+) -> Result<Cell, Fault>
+    requires used { row.entry.in_use ≡ true }
+    requires counts { length (S.Store.meaning store.now).bytes < 2 ^ 64 }
+    ensures is { state_of (S.Store.meaning store.now).bytes offset row.number (slot_of row.entry) ≡ state_read (S.Store.meaning store.now).bytes result }
+    ensures ends { row.entry.field < offset → IfOk result (EndsBy offset) }
+{
+    let at = row.entry.field as usize;
+    window.fill(store, at, offset.saturating_sub(at));
+    match read_frame_at(at, window.seen()) {
+        Ok(frame) => framed_cell(offset, row, frame),
+        Err(fault) => Err(fault.of_object(row.number as usize)),
+    }
+}
+
+// What a row stands for: a free entry by itself, one in use by its object.
+fn row_cell<S: Store>(
+    store: &S,
+    window: &mut Window,
+    offset: usize,
+    row: Row,
+) -> Result<Cell, Fault>
+    requires { length (S.Store.meaning store.now).bytes < 2 ^ 64 }
+    ensures is { state_of (S.Store.meaning store.now).bytes offset row.number (slot_of row.entry) ≡ state_read (S.Store.meaning store.now).bytes result }
+    ensures ends { (row.entry.in_use ≡ true → row.entry.field < offset) → IfOk result (EndsBy offset) }
+{
+    if row.entry.in_use {
+        used_cell(store, window, offset, row)
+    } else {
+        Ok(Cell::Free {
+            generation: row.entry.generation,
+            next: row.entry.field,
+        })
+    }
+}
+
+// Reads the objects of a section at `offset`, row by row, into cells in the place of those held.
+pub fn read_objects<S: Store>(
+    store: &S,
+    window: &mut Window,
+    offset: usize,
+    rows: &[Row],
+    cells: &mut Vec<Cell>,
+) -> Result<(), Fault>
+    requires counts { length (S.Store.meaning store.now).bytes < 2 ^ 64 }
+    requires room { length rows.now ≤ vec_capacity cells.old }
+    ensures is { ReadsObjects (S.Store.meaning store.now).bytes offset rows.now cells.new.items result }
+    ensures capacity { vec_capacity cells.new ≡ vec_capacity cells.old }
+{
+    cells.clear();
+    for row in rows {
+        let cell = row_cell(store, window, offset, *row)?;
+        cells.push_reserved(cell);
+    }
+    Ok(())
+}

@@ -1,0 +1,94 @@
+// Opening a file: length, header and tail; each section, the newest first; each revision, the oldest first.
+ghost use Rattle.std.specs.Prelude.{◌≡◌, ◌≤◌, List, [], length, vec_len};
+ghost use Rattle.format.specs.Chain.{Link};
+ghost use Rattle.format.specs.Revisions.{header_fits};
+ghost use Rattle.format.specs.Sections.{last_offset};
+ghost use Rattle.records.specs.Chained.{LinkedFrom, Opens, RevisionsRead};
+ghost use Rattle.records.specs.Tabled.{Tabled, cells_held, revisions_held};
+
+use crate::chain::walk;
+use crate::revision::read_revision;
+use crate::scratch::Scratch;
+use crate::tables::Tables;
+use crate::window::Window;
+use faults::fault::Fault;
+use faults::layer::Layer;
+use faults::reason::Reason;
+use opening::header::header_fits;
+use opening::last::last_offset;
+use stores::store::Store;
+
+// The most bytes of a file.
+pub const FILE_BYTES: usize = 9_999_999;
+
+// The bytes of a header, and the most of a tail.
+const HEADER_BYTES: usize = 8;
+
+const TAIL_BYTES: usize = 31;
+
+fn has_header<S: Store>(store: &S, window: &mut Window) -> bool
+    ensures { result ≡ header_fits (S.Store.meaning store.now).bytes }
+{
+    window.fill(store, 0, HEADER_BYTES);
+    header_fits(window.seen())
+}
+
+// The offset of the newest section, which the file's tail gives.
+fn newest_offset<S: Store>(store: &S, window: &mut Window) -> Option<u64>
+    ensures { result ≡ last_offset (S.Store.meaning store.now).bytes }
+{
+    window.fill(store, store.len().saturating_sub(TAIL_BYTES), TAIL_BYTES);
+    last_offset(window.seen())
+}
+
+// Reads the revisions of the sections whose offsets are held, the oldest first, into tables that are empty.
+fn read_revisions<S: Store>(
+    store: &S,
+    scratch: &mut Scratch,
+    tables: &mut Tables,
+) -> Result<(), Fault>
+    requires few { vec_len scratch.old.offsets ≤ 64 }
+    requires revisions { revisions_held tables.old ≡ [] }
+    requires cells { cells_held tables.old ≡ [] }
+    ensures is { (ls : List Link) → LinkedFrom (S.Store.meaning store.now).bytes 0 ls scratch.old.offsets.items → RevisionsRead (S.Store.meaning store.now).bytes ls (revisions_held tables.new) (cells_held tables.new) result }
+    ensures tabled { Tabled (revisions_held tables.new) (cells_held tables.new) }
+{
+    while let Some(offset) = scratch.offsets.pop() {
+        read_revision(store, scratch, tables, offset)?;
+    }
+    Ok(())
+}
+
+// Opens the file that lies in the store: its tables are held then, and no others. The answer is how many revisions it has.
+pub fn open_file<S: Store>(
+    store: &S,
+    scratch: &mut Scratch,
+    tables: &mut Tables,
+) -> Result<usize, Fault>
+    ensures is { Opens (S.Store.meaning store.now).bytes (revisions_held tables.new) (cells_held tables.new) result }
+    ensures tabled { Tabled (revisions_held tables.new) (cells_held tables.new) }
+{
+    tables.clear();
+    let length = store.len();
+    if length > FILE_BYTES {
+        return Err(Fault::met(Reason::FileBound, Layer::Chain, 0));
+    }
+    if !has_header(store, &mut scratch.window) {
+        return Err(Fault::met(Reason::NoHeader, Layer::Chain, 0));
+    }
+    match newest_offset(store, &mut scratch.window) {
+        None => Err(Fault::met(Reason::NoTail, Layer::Chain, length)),
+        Some(newest) => {
+            walk(
+                store,
+                &mut scratch.window,
+                &mut scratch.rows,
+                &mut scratch.offsets,
+                newest as usize,
+                length,
+            )?;
+            read_revisions(store, scratch, tables)?;
+            Ok(tables.len())
+        }
+    }
+}

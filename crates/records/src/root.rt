@@ -1,0 +1,44 @@
+// The root of a revision.
+ghost use Rattle.std.specs.Prelude.{◌≡◌};
+ghost use Rattle.format.specs.Bytes.{Bytes};
+ghost use Rattle.format.specs.Revisions.{root_fits};
+ghost use Rattle.entries.specs.Cells.{states_in};
+ghost use Rattle.entries.specs.Rows.{rows_of};
+ghost use Rattle.records.specs.Laid.{used_at};
+
+use crate::rows::find_row;
+use entries::cell::Cell;
+use entries::entry::Row;
+
+// The cell at `n` is in use with that generation.
+fn used_at(n: usize, generation: u32, cells: &[Cell]) -> bool
+    ensures { (file : Bytes) → result ≡ used_at n generation (states_in file cells.now) }
+{
+    if n >= cells.len() {
+        return false;
+    }
+    match cells[n] {
+        Cell::Used {
+            generation: held,
+            start: _,
+            end: _,
+        } => held == generation,
+        Cell::Free {
+            generation: _,
+            next: _,
+        } => false,
+    }
+}
+
+// Root is in use with its generation, by its row or, where it has none, in the table before.
+pub fn root_fits(root: u32, root_generation: u32, rows: &[Row], old: &[Cell]) -> bool
+    ensures { (file : Bytes) → result ≡ root_fits root root_generation (rows_of rows.now) (states_in file old.now) }
+{
+    match find_row(rows, root as u64) {
+        Some(i) => {
+            let entry = rows[i].entry;
+            entry.in_use && entry.generation == root_generation
+        }
+        None => used_at(root as usize, root_generation, old),
+    }
+}

@@ -1,0 +1,131 @@
+// The checks of what a section lists.
+ghost use Rattle.std.specs.Prelude.{◌≡◌, ℕ, ◌<◌, ◌≤◌, true, false, length, ℤ, IfSome};
+ghost use Rattle.faults.specs.declared.reason.Reason.TheVariants.{ChainRule};
+ghost use Rattle.format.specs.Chain.{in_bound};
+ghost use Rattle.format.specs.Failures.{chain_fault};
+ghost use Rattle.format.specs.Revisions.{covered, highest, slot_fits, slots_fit, under_size};
+ghost use Rattle.entries.specs.Rows.{rows_of, slot_of};
+ghost use Rattle.records.specs.Listing.{numbers_of, place_from};
+
+use entries::entry::Row;
+use faults::fault::Fault;
+use faults::layer::Layer;
+use faults::reason::Reason;
+
+// The highest object number.
+pub const HIGHEST_NUMBER: u64 = 999;
+
+// The highest generation of an object, and that of a free entry.
+const HIGHEST_USED: u32 = 65_534;
+
+const HIGHEST_FREE: u32 = 65_535;
+
+// A rule of the chain or of a table is broken: in the section at `offset`, for that object, 0 if none.
+pub fn broken_rule(offset: usize, number: usize) -> Fault
+    ensures { result ≡ chain_fault ChainRule offset number }
+{
+    Fault::met(Reason::ChainRule, Layer::Chain, offset).of_object(number)
+}
+
+// No number is too high.
+pub fn in_bound(rows: &[Row]) -> bool
+    ensures { result ≡ in_bound (rows_of rows.now) }
+{
+    for row in rows {
+        if row.number > HIGHEST_NUMBER {
+            return false;
+        }
+    }
+    true
+}
+
+fn under_size(n: u64, size: i64) -> bool
+    ensures { result ≡ under_size n size }
+{
+    size >= 0 && n < size as u64
+}
+
+// An entry in use in a section at `offset`: its number, its generation, and where its object stands.
+fn used_fits(offset: usize, row: Row) -> bool
+    requires { row.entry.in_use ≡ true }
+    ensures { (size : ℤ) → result ≡ slot_fits offset size row.number (slot_of row.entry) }
+{
+    if row.number < 1 || row.entry.generation > HIGHEST_USED {
+        return false;
+    }
+    row.entry.field < offset as u64
+}
+
+// A free entry of a table of that Size: its generation and its link.
+fn free_fits(size: i64, row: Row) -> bool
+    requires { row.entry.in_use ≡ false }
+    ensures { (offset : ℕ) → result ≡ slot_fits offset size row.number (slot_of row.entry) }
+{
+    if row.entry.generation > HIGHEST_FREE {
+        return false;
+    }
+    if row.number == 0 && row.entry.generation < HIGHEST_FREE {
+        return false;
+    }
+    under_size(row.entry.field, size)
+}
+
+fn entry_fits(offset: usize, size: i64, row: Row) -> bool
+    ensures { result ≡ slot_fits offset size row.number (slot_of row.entry) }
+{
+    if row.entry.in_use {
+        used_fits(offset, row)
+    } else {
+        free_fits(size, row)
+    }
+}
+
+// Every entry fits; else the fault names the section and the number.
+pub fn slots_fit(offset: usize, size: i64, rows: &[Row]) -> Result<(), Fault>
+    ensures { result ≡ slots_fit offset size (rows_of rows.now) }
+{
+    for row in rows {
+        if !entry_fits(offset, size, *row) {
+            return Err(broken_rule(offset, row.number as usize));
+        }
+    }
+    Ok(())
+}
+
+// One more than the highest number: of those below `old`, and of those listed.
+pub fn highest(old: usize, rows: &[Row]) -> usize
+    requires { (in_bound (rows_of rows.now) ≡ true) × (old ≤ 1000) }
+    ensures is { result ≡ highest old (rows_of rows.now) }
+    ensures small { result ≤ 1000 }
+{
+    let mut size = old;
+    for row in rows {
+        size = size.max(row.number as usize + 1);
+    }
+    size
+}
+
+// The place of the first row of a number.
+pub fn find_row(rows: &[Row], n: u64) -> Option<usize>
+    ensures is { result ≡ place_from 0 n (numbers_of rows.now) }
+    ensures within { IfSome result (λ i. i < length rows.now) }
+{
+    for (i, row) in rows.iter().enumerate() {
+        if row.number == n {
+            return Some(i);
+        }
+    }
+    None
+}
+
+// Every number below Size is listed, or stood in the table before, which had `old` numbers.
+pub fn covered(size: usize, rows: &[Row], old: usize) -> bool
+    ensures { result ≡ covered size 0 (rows_of rows.now) old }
+{
+    for n in 0..size {
+        if n >= old && find_row(rows, n as u64).is_none() {
+            return false;
+        }
+    }
+    true
+}
