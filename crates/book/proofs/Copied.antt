@@ -1,0 +1,34 @@
+-- Bytes copied part by part.
+use Rattle.std.proofs.Common.{◌≡◌, ℕ, ◌+◌, ◌-◌, ◌<◌, ◌≤◌, min, List, [], ◌∷◌, ◌++◌, length, take, drop, Ok, Err, Result, sym, ap, ◌∙◌, append_assoc, arith, length-drop, length-take, take-take, take-add}
+use lib.Seq.{take-append-le}
+use Rattle.std.proofs.lemmas.List.{append-nil, drop_all}
+use Rattle.faults.specs.declared.fault.Fault.{Fault}
+use Rattle.stores.specs.Meanings.{Meaning, Appends, Filled}
+use Rattle.book.specs.Copies.{Grown}
+
+-- a window that lies in the bytes is filled whole
+pub filled_whole : (bytes b after : List ℕ) (from r m : ℕ) → length b ≡ m → m ≤ length bytes - from → Filled bytes from b r after → after ≡ take m (drop from bytes)
+filled_whole bytes b after from r m l h f =
+    let n : r ≡ m = omega (arith, f.count_is) in
+    f.after_is ∙ ap (λ t. take r (drop from bytes) ++ t) (drop_all r b (omega arith)) ∙ append-nil _ ∙ ap (λ k. take k (drop from bytes)) n
+
+-- what stands before a place of the window that was filled
+pub filled_front : (bytes b after : List ℕ) (from r k : ℕ) → k ≤ r → Filled bytes from b r after → take k after ≡ take k (drop from bytes)
+filled_front bytes b after from r k h f =
+    let l : length (take r (drop from bytes)) ≡ r = simp (length-take, length-drop) (omega (arith, f.count_is)) in
+    ap (take k) f.after_is ∙ take-append-le k (take r (drop from bytes)) (drop r b) (omega arith) ∙ take-take k r (drop from bytes) h
+
+-- one part more is joined
+pub joined_more : (was mid is : Meaning) (bytes more : List ℕ) (p k : ℕ) (r : Result (Unit {0}) Fault) → Grown was (take p bytes) mid → more ≡ take k (drop p bytes) → p + k ≤ length bytes → p + k ≤ was.space → Appends mid more r is → Grown was (take (p + k) bytes) is
+joined_more was mid is bytes more p k (Ok u) g e h s a =
+    let l : length more ≡ k = ap length e ∙ simp (length-take, length-drop) (omega arith) in
+    let lp : length (take p bytes) ≡ p = simp length-take (omega arith) in
+    let lk : length (take (p + k) bytes) ≡ p + k = simp length-take (omega arith) in
+    record {
+      bytes = a.bytes ∙ ap (λ t. t ++ more) g.bytes ∙ append_assoc was.bytes (take p bytes) more ∙ ap (λ t. was.bytes ++ (take p bytes ++ t)) e ∙ ap (λ t. was.bytes ++ t) (sym (take-add p k bytes));
+      space = omega (arith, g.space, a.space);
+    }
+joined_more was mid is bytes more p k (Err f) g e h s a =
+    let l : length more ≡ k = ap length e ∙ simp (length-take, length-drop) (omega arith) in
+    let lp : length (take p bytes) ≡ p = simp length-take (omega arith) in
+    absurd (omega (arith, a.0, g.space))

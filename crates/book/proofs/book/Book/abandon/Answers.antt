@@ -1,0 +1,19 @@
+use Rattle.std.proofs.Common.{◌≡◌, Ok, Err, refl, ap, ◌∙◌, subst}
+use Rattle.std.proofs.lemmas.Result.{err_from_is_err_and}
+use Rattle.format.specs.Book.{abandon, spent_after}
+use Rattle.book.specs.Books.{Performs}
+use Rattle.book.proofs.book.Book.abandon.Goals as goal
+
+pub returns-in-err-perform : goal.returns-in-err-perform
+unfolding spent_after
+returns-in-err-perform g c =
+    let p = err_from_is_err_and c.from-residual.result c.from-residual.ensures.1 in
+    let z : c.from-residual.result ≡ Err c.in-err-perform.field-0.0 = cc in
+    let k = c.abandoning.ensures ∙ ap abandon c.is-spent-spent.ensures in
+    rw z (record { performs = subst (λ x. Performs g.S.Store.meaning c.args.self.now x (Err c.in-err-perform.field-0.0) c.perform.new.self) k c.in-err-perform.ensures; slip = refl })
+
+pub returns : goal.returns
+unfolding spent_after
+returns g c =
+    let k = c.abandoning.ensures ∙ ap abandon c.is-spent-spent.ensures in
+    record { performs = subst (λ x. Performs g.S.Store.meaning c.args.self.now x (Ok tt) c.perform.new.self) k c.in-ok-perform.ensures; slip = c.spend.ensures }

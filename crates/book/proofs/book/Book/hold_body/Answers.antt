@@ -1,0 +1,51 @@
+use Rattle.std.proofs.Common.{◌≡◌, false, Ok, Err, sym, ap, ◌∙◌}
+use Rattle.std.proofs.lemmas.Result.{err_from_is_err_and}
+use Rattle.format.specs.Book.{put, updating, decide, newest}
+use Rattle.format.specs.Updates.{with_change, body}
+use Rattle.keeping.proofs.Sound.{sound_stays}
+use Rattle.book.specs.Books.{update_in}
+use Rattle.writer.specs.Helds.{update_of}
+use Rattle.book.specs.Calls.{phase_of}
+use Rattle.book.proofs.Performed.{performs_at, refused_at, updating_sound, updating_phase, some_row, row_inside, newest_table, put_room}
+use Rattle.book.proofs.Steps.{put_step}
+use Rattle.book.proofs.book.Book.hold_body.Goals as goal
+
+pub last-row-row-requires : goal.last-row-row-requires
+last-row-row-requires g c = some_row g.S.Store.meaning c.args.self.now c.requires.sound c.requires.updating _ c.revisions.ensures
+
+pub cells-of-cells-requires : goal.cells-of-cells-requires
+cells-of-cells-requires g c =
+    row_inside g.S.Store.meaning c.args.self.now c.requires.sound c.requires.updating _ c.revisions.ensures c.last-row-row.result c.last-row-row.ensures _ c.cells.ensures
+
+pub returns-in-err-decide-put : goal.returns-in-err-decide-put
+unfolding decide
+returns-in-err-decide-put g c =
+    let b = c.args.self.now in
+    let f = (g.S.Store.meaning b.store).bytes in
+    let t = newest_table g.S.Store.meaning b c.requires.sound c.requires.updating _ c.revisions.ensures c.last-row-row.result c.last-row-row.ensures _ c.cells.ensures _ c.cells-of-cells.ensures in
+    let d = c.in-err-decide-put.ensures f (newest f) t in
+    let p = err_from_is_err_and c.from-residual.result c.from-residual.ensures.1 in
+    let z : c.from-residual.result ≡ Err c.in-err-decide-put.field-0.0 = cc in
+    rw z (refused_at g.S.Store.meaning b (put false c.args.number c.args.body.now) c.in-err-decide-put.field-0.0 (updating (update_in b)) (updating_phase g.S.Store.meaning b c.requires.sound c.requires.updating) (sym d) c.requires.sound)
+
+pub put-requires : goal.put-requires
+put-requires g c =
+    let b = c.args.self.now in
+    let f = (g.S.Store.meaning b.store).bytes in
+    let t = newest_table g.S.Store.meaning b c.requires.sound c.requires.updating _ c.revisions.ensures c.last-row-row.result c.last-row-row.ensures _ c.cells.ensures _ c.cells-of-cells.ensures in
+    let r = put_room (newest f) (update_in b) c.args.number c.args.body.now (sym (c.in-ok-decide-put.ensures f (newest f) t)) in
+    record { free = r.0; room = r.1 }
+
+pub returns : goal.returns
+returns g c =
+    let b = c.args.self.now in
+    let m = g.S.Store.meaning in
+    let f = (m b.store).bytes in
+    let t = newest_table m b c.requires.sound c.requires.updating _ c.revisions.ensures c.last-row-row.result c.last-row-row.ensures _ c.cells.ensures _ c.cells-of-cells.ensures in
+    let d = sym (c.in-ok-decide-put.ensures f (newest f) t) in
+    let u = with_change c.args.number (body c.args.body.now) (update_in b) in
+    performs_at m b _ (put false c.args.number c.args.body.now) (Ok tt) (updating (update_in b)) (updating u)
+    (updating_phase m b c.requires.sound c.requires.updating)
+    (ap (λ p. phase_of p (update_of c.put.new.self)) c.requires.updating ∙ ap updating c.put.ensures)
+    (put_step (m b.store) (update_in b) c.args.number c.args.body.now d)
+    (sound_stays.put f _ _ (update_in b) c.args.number c.args.body.now (updating_sound m b c.requires.sound c.requires.updating) d)

@@ -1,0 +1,53 @@
+use Rattle.std.proofs.Common.{◌≡◌, false, Ok, Err, sym, ap, ◌∙◌}
+use Rattle.std.proofs.lemmas.Result.{err_from_is_err_and}
+use Rattle.format.specs.Book.{remove, updating, decide, newest}
+use Rattle.format.specs.Updates.{with_change, removed}
+use Rattle.keeping.proofs.Sound.{sound_stays}
+use Rattle.book.specs.Books.{update_in}
+use Rattle.writer.specs.Helds.{update_of}
+use Rattle.book.specs.Calls.{phase_of}
+use Rattle.book.proofs.Performed.{performs_at, refused_at, updating_sound, updating_phase, some_row, row_inside, newest_root, newest_table, remove_room}
+use Rattle.book.proofs.Steps.{remove_step}
+use Rattle.book.proofs.book.Book.hold_removal.Goals as goal
+
+pub last-row-row-requires : goal.last-row-row-requires
+last-row-row-requires g c = some_row g.S.Store.meaning c.args.self.now c.requires.sound c.requires.updating _ c.revisions.ensures
+
+pub cells-of-cells-requires : goal.cells-of-cells-requires
+cells-of-cells-requires g c =
+    row_inside g.S.Store.meaning c.args.self.now c.requires.sound c.requires.updating _ c.revisions.ensures c.last-row-row.result c.last-row-row.ensures _ c.cells.ensures
+
+pub returns-in-err-decide-remove : goal.returns-in-err-decide-remove
+unfolding decide
+returns-in-err-decide-remove g c =
+    let b = c.args.self.now in
+    let m = g.S.Store.meaning in
+    let f = (g.S.Store.meaning b.store).bytes in
+    let t = newest_table g.S.Store.meaning b c.requires.sound c.requires.updating _ c.revisions.ensures c.last-row-row.result c.last-row-row.ensures _ c.cells.ensures _ c.cells-of-cells.ensures in
+    let d = c.in-err-decide-remove.ensures f (newest f) t (newest_root m b c.requires.sound c.requires.updating _ c.revisions.ensures c.last-row-row.result c.last-row-row.ensures _ c.cells.ensures) in
+    let p = err_from_is_err_and c.from-residual.result c.from-residual.ensures.1 in
+    let z : c.from-residual.result ≡ Err c.in-err-decide-remove.field-0.0 = cc in
+    rw z (refused_at g.S.Store.meaning b (remove false c.args.number) c.in-err-decide-remove.field-0.0 (updating (update_in b)) (updating_phase g.S.Store.meaning b c.requires.sound c.requires.updating) (sym d) c.requires.sound)
+
+pub remove-requires : goal.remove-requires
+remove-requires g c =
+    let b = c.args.self.now in
+    let m = g.S.Store.meaning in
+    let f = (g.S.Store.meaning b.store).bytes in
+    let t = newest_table g.S.Store.meaning b c.requires.sound c.requires.updating _ c.revisions.ensures c.last-row-row.result c.last-row-row.ensures _ c.cells.ensures _ c.cells-of-cells.ensures in
+    let r = remove_room (newest f) (update_in b) c.args.number (sym (c.in-ok-decide-remove.ensures f (newest f) t (newest_root m b c.requires.sound c.requires.updating _ c.revisions.ensures c.last-row-row.result c.last-row-row.ensures _ c.cells.ensures))) in
+    record { free = r.0; room = r.1 }
+
+pub returns : goal.returns
+returns g c =
+    let b = c.args.self.now in
+    let m = g.S.Store.meaning in
+    let f = (m b.store).bytes in
+    let t = newest_table m b c.requires.sound c.requires.updating _ c.revisions.ensures c.last-row-row.result c.last-row-row.ensures _ c.cells.ensures _ c.cells-of-cells.ensures in
+    let d = sym (c.in-ok-decide-remove.ensures f (newest f) t (newest_root m b c.requires.sound c.requires.updating _ c.revisions.ensures c.last-row-row.result c.last-row-row.ensures _ c.cells.ensures)) in
+    let u = with_change c.args.number removed (update_in b) in
+    performs_at m b _ (remove false c.args.number) (Ok tt) (updating (update_in b)) (updating u)
+    (updating_phase m b c.requires.sound c.requires.updating)
+    (ap (λ p. phase_of p (update_of c.remove.new.self)) c.requires.updating ∙ ap updating c.remove.ensures)
+    (remove_step (m b.store) (update_in b) c.args.number d)
+    (sound_stays.remove f _ _ (update_in b) c.args.number (updating_sound m b c.requires.sound c.requires.updating) d)

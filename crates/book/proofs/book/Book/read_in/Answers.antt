@@ -1,0 +1,27 @@
+use Rattle.std.proofs.Common.{◌≡◌, Ok, Err, refl, ap}
+use Rattle.std.proofs.lemmas.Result.{err_from_is_err_and}
+use Rattle.format.specs.Book.{open_file, shut, standing}
+use Rattle.keeping.proofs.Sound.{sound_stays}
+use Rattle.book.specs.Books.{update_in}
+use Rattle.book.specs.Calls.{phase_of}
+use Rattle.book.proofs.Performed.{performs_at}
+use Rattle.book.proofs.Steps.{opened_step, unopened_step}
+use Rattle.book.proofs.book.Book.read_in.Goals as goal
+
+pub returns-in-err-open-file : goal.returns-in-err-open-file
+returns-in-err-open-file g c =
+    let b = c.args.self.now in
+    let m = g.S.Store.meaning in
+    let p = err_from_is_err_and c.from-residual.result c.from-residual.ensures.1 in
+    let z : c.from-residual.result ≡ Err c.in-err-open-file.field-0.0 = cc in
+    let e = ap (λ q. phase_of q (update_in b)) c.requires in
+    rw z (performs_at m b _ open_file (Err c.in-err-open-file.field-0.0) shut shut e e (unopened_step (m b.store) _ c.in-err-open-file.ensures.is) tt)
+
+pub returns : goal.returns
+returns g c =
+    let b = c.args.self.now in
+    let m = g.S.Store.meaning in
+    let o = c.in-ok-open-file.ensures.is in
+    performs_at m b _ open_file (Ok tt) shut standing (ap (λ q. phase_of q (update_in b)) c.requires) refl
+    (opened_step (m b.store) o.0 o.1)
+    (sound_stays.opening (m b.store).bytes o.0 _ _ o.1 o.3)

@@ -1,0 +1,12 @@
+use Rattle.std.proofs.Common.{◌≡◌, ◌-◌, ◌++◌, length, drop, sym, refl, ap, ◌∙◌, arith, length-drop, length-take}
+use Rattle.entries.specs.Cells.{part}
+use Rattle.format.specs.Questions.{fill_start}
+use Rattle.book.proofs.copies.body_into.Goals as goal
+
+pub returns : goal.returns
+unfolding fill_start
+returns g c =
+    let file = (g.S.Store.meaning c.args.store.now).bytes in
+    let b = part file c.args.start c.args.end in
+    let l : c.args.end - c.args.start ≡ length b = simp (length-take, length-drop) (omega (arith, c.requires.inside)) in
+    (omega arith, refl, c.fill.ensures ∙ ap (λ k. b ++ drop k c.args.buffer.now) l)

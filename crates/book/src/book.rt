@@ -1,0 +1,34 @@
+// The book.
+use crate::call::Phase;
+use records::scratch::Scratch;
+use records::tables::Tables;
+use stores::store::Store;
+use writer::held::Held;
+use writer::update::Writer;
+
+mod backward;
+mod calls;
+mod commit;
+pub mod compare;
+mod making;
+mod perform;
+pub mod questions;
+mod reading;
+mod updates;
+
+// The memory of a book, taken before it is made.
+#[derive(Drop)]
+pub struct Memory {
+    tables: Tables,
+    scratch: Scratch,
+    held: Held,
+    writer: Writer,
+}
+
+// A book is put round a store: it opens the record that lies there, answers questions about every revision, and changes the record by updates.
+#[derive(Drop)]
+pub struct Book<S: Store> {
+    store: S,
+    phase: Phase,
+    memory: Memory,
+}

@@ -1,0 +1,98 @@
+// Committing the open update.
+ghost use Rattle.std.specs.Prelude.{◌≡◌, false};
+ghost use Rattle.format.specs.Book.{commit, decide_commit};
+ghost use Rattle.book.specs.declared.call.Phase.TheVariants.{Updating};
+ghost use Rattle.book.specs.Books.{Performs, Sound, update_in};
+ghost use Rattle.book.specs.Drafted.{Drafted, Drafts};
+
+use super::Book;
+use crate::call::Phase;
+use crate::rows::{cells_of, last_row};
+use faults::fault::Fault;
+use faults::reason::Reason;
+use records::revision::read_revision;
+use records::trailer::read_trailer;
+use stores::store::Store;
+
+// The most revisions, the highest Size, the most bytes of a file and of a section.
+const MOST_REVISIONS: usize = 64;
+
+const MOST_SIZE: usize = 1000;
+
+const MOST_BYTES: usize = 9_999_999;
+
+const MOST_SECTION: usize = 32_768;
+
+impl<S: Store> Book<S> {
+    // Writes the open update behind the file, all or nothing, and reads it back into the tables.
+    pub(super) fn write(&mut self) -> Result<(), Fault>
+        requires sound { Sound S.Store.meaning self.old }
+        requires updating { self.old.phase ≡ Updating }
+        ensures { Performs S.Store.meaning self.old (commit false) result self.new }
+    {
+        let objects = self.draft();
+        self.check_commit(objects)?;
+        let offset = self.store.len() + objects;
+        let _ = self.store.append(self.memory.writer.as_slice());
+        let _ = read_revision(
+            &self.store,
+            &mut self.memory.scratch,
+            &mut self.memory.tables,
+            offset,
+        );
+        self.phase = Phase::Standing;
+        Ok(())
+    }
+
+    // Lays the bytes of the open update down in the writer's memory, and answers how many of them are its objects.
+    fn draft(&mut self) -> usize
+        requires sound { Sound S.Store.meaning self.old }
+        requires updating { self.old.phase ≡ Updating }
+        ensures { Drafts S.Store.meaning self.old result self.new }
+    {
+        let row = last_row(self.memory.tables.revisions());
+        let inside = match read_trailer(&self.store, &mut self.memory.scratch, row.offset) {
+            Ok(place) => place,
+            Err(_) => unreachable(),
+        };
+        let cells = cells_of(self.memory.tables.cells(), row);
+        self.memory.writer.write(
+            &self.memory.held,
+            cells,
+            self.store.len(),
+            row.offset,
+            self.memory.scratch.seen(),
+            inside,
+        )
+    }
+
+    // Whether the update that was laid down may be committed: every check, and nothing is changed.
+    fn check_commit(&self, objects: usize) -> Result<(), Fault>
+        requires sound { Sound S.Store.meaning self.now }
+        requires updating { self.now.phase ≡ Updating }
+        requires drafted { Drafted S.Store.meaning self.now objects }
+        ensures { result ≡ decide_commit (S.Store.meaning self.now.store) (update_in self.now) }
+    {
+        if self.memory.held.len() == 0 {
+            return Err(Fault::refused(Reason::NoChanges, 0));
+        }
+        let row = last_row(self.memory.tables.revisions());
+        let added = self.memory.writer.len();
+        if self.memory.tables.len() >= MOST_REVISIONS {
+            return Err(Fault::refused(Reason::PastLimits, 0));
+        }
+        if row.size + self.memory.held.new_numbers(row.size) > MOST_SIZE {
+            return Err(Fault::refused(Reason::PastLimits, 0));
+        }
+        if added > MOST_BYTES - self.store.len() {
+            return Err(Fault::refused(Reason::PastLimits, 0));
+        }
+        if added - objects > MOST_SECTION {
+            return Err(Fault::refused(Reason::PastLimits, 0));
+        }
+        if added > self.store.space() {
+            return Err(Fault::refused(Reason::NoSpace, 0));
+        }
+        Ok(())
+    }
+}

@@ -1,0 +1,19 @@
+// What a commit may count on, in numbers: each function here carries a statement in its contract.
+#![tactic(auto)]
+
+ghost use Rattle.bounds.specs.Bounded.{OpenFilesAreBounded};
+ghost use Rattle.bounds.specs.Deciding.{CommitsDecidedByNumbers};
+
+// The sizes, generations and places of an open file keep their bounds.
+pub fn open_files_are_bounded() -> u8
+    ensures { OpenFilesAreBounded }
+{
+    0
+}
+
+// What a commit decides follows from how many revisions and bytes there are and would be.
+pub fn commits_decided_by_numbers() -> u8
+    ensures { CommitsDecidedByNumbers }
+{
+    0
+}

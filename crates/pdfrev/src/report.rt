@@ -1,0 +1,61 @@
+// What the short commands print.
+ghost use Rattle.book.specs.Books.{Sound};
+
+use crate::changes::write_changes;
+use crate::failure::Failure;
+use book::book::Book;
+use reports::differences::differences;
+use std::alloc::Global;
+use std::io::Write;
+use stores::store::Store;
+
+// The most bytes that an object has.
+const OBJECT_BYTES: usize = 32_768;
+
+pub fn accepted<S: Store, W: Write>(book: &Book<S>, out: &mut W) -> Result<(), Failure>
+    requires { Sound S.Store.meaning book.now }
+{
+    let count = book.revisions()?;
+    if count == 1 {
+        writeln!(out, "accepted: 1 revision")?;
+    } else {
+        writeln!(out, "accepted: {count} revisions")?;
+    }
+    Ok(())
+}
+
+// Writes the body of the number n in revision k, and answers its generation.
+pub fn show<S: Store, W: Write>(
+    heap: Global,
+    book: &Book<S>,
+    k: usize,
+    n: usize,
+    out: &mut W,
+) -> Result<u32, Failure>
+    requires { Sound S.Store.meaning book.now }
+{
+    let mut body = vec![in heap; 0u8; OBJECT_BYTES]?;
+    let (generation, length) = book.fetch(k, n, body.as_mut_slice())?;
+    body.truncate(length);
+    out.write_all(body.as_slice())?;
+    Ok(generation)
+}
+
+pub fn diff<S: Store, W: Write>(
+    heap: Global,
+    book: &Book<S>,
+    j: usize,
+    k: usize,
+    out: &mut W,
+) -> Result<(), Failure>
+    requires { Sound S.Store.meaning book.now }
+{
+    let changes = differences(heap, book, j, k)?;
+    if changes.is_empty() {
+        out.write_all(b"nothing changed")?;
+    } else {
+        write_changes(heap, changes.as_slice(), out)?;
+    }
+    out.write_all(b"\n")?;
+    Ok(())
+}

@@ -1,0 +1,5 @@
+mod Numerals
+mod Listed
+mod Orders
+mod Between
+mod Telling

@@ -1,0 +1,79 @@
+// What changed between two revisions.
+ghost use Rattle.std.specs.Prelude.{◌≡◌, IfOk};
+ghost use Rattle.book.specs.Books.{Sound, moment_of};
+ghost use Rattle.reports.specs.Differences.{Differs, numbers_of, same_kind};
+
+use crate::trouble::Trouble;
+use book::book::Book;
+use book::book::compare::Difference;
+use std::alloc::{AllocError, Global};
+use stores::store::Store;
+
+// An object number, and what became of it.
+#[derive(Clone, Copy, Debug, PartialEq, Eq)]
+pub struct Change {
+    pub number: usize,
+    pub difference: Difference,
+}
+
+// The objects added, changed and withdrawn from revision j to revision k, by ascending number.
+pub fn differences<S: Store>(
+    heap: Global,
+    book: &Book<S>,
+    j: usize,
+    k: usize,
+) -> Result<Vec<Change>, Trouble>
+    requires { Sound S.Store.meaning book.now }
+    ensures { Differs (moment_of S.Store.meaning book.now) j k result }
+{
+    let earlier = book.list(j)?;
+    let later = book.list(k)?;
+    let count = earlier.size.max(later.size);
+    let mut all = Vec::with_capacity(heap, count)?;
+    for n in 0..count {
+        match book.differ(j, k, n)? {
+            Some(difference) => all.push_reserved(Change {
+                number: n,
+                difference,
+            }),
+            None => {}
+        }
+    }
+    Ok(all)
+}
+
+// The numbers of which the same became.
+pub fn numbers_of(
+    heap: Global,
+    changes: &[Change],
+    difference: Difference,
+) -> Result<Vec<usize>, AllocError>
+    ensures { IfOk result (λ v. v.items ≡ numbers_of difference changes.now) }
+{
+    let mut numbers = Vec::new(heap);
+    for change in changes {
+        if is_same(change.difference, difference) {
+            numbers.push(change.number)?;
+        }
+    }
+    Ok(numbers)
+}
+
+fn is_same(a: Difference, b: Difference) -> bool
+    ensures { result ≡ same_kind a b }
+{
+    match a {
+        Difference::Added => match b {
+            Difference::Added => true,
+            _ => false,
+        },
+        Difference::Changed => match b {
+            Difference::Changed => true,
+            _ => false,
+        },
+        Difference::Withdrawn => match b {
+            Difference::Withdrawn => true,
+            _ => false,
+        },
+    }
+}

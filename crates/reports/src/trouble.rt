@@ -1,0 +1,28 @@
+// Why there is no report.
+ghost use Rattle.std.specs.Prelude.{◌≡◌};
+ghost use Rattle.reports.specs.declared.trouble.Trouble.TheVariants.{NoMemory, Refused};
+
+use faults::fault::Fault;
+use std::alloc::AllocError;
+
+#[derive(Clone, Copy, PartialEq, Eq, Debug)]
+pub enum Trouble {
+    NoMemory,
+    Refused(Fault),
+}
+
+impl From<Fault> for Trouble {
+    ghost from_gives = { λ f r. r ≡ Refused f };
+
+    fn from(f: Fault) -> Trouble {
+        Trouble::Refused(f)
+    }
+}
+
+impl From<AllocError> for Trouble {
+    ghost from_gives = { λ _ r. r ≡ NoMemory };
+
+    fn from(_e: AllocError) -> Trouble {
+        Trouble::NoMemory
+    }
+}

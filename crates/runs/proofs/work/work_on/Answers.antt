@@ -1,0 +1,23 @@
+use Rattle.std.proofs.Common.{refl}
+use Rattle.runs.proofs.Working.{finished, opened_tied, unopened}
+use Rattle.runs.proofs.work.work_on.Goals as goal
+
+pub make-calls-requires : goal.make-calls-requires
+make-calls-requires g c = record {
+  sound = c.in-Ok.ensures.performs.sound;
+  tied = opened_tied g.S.Store.meaning c.args.book c.open.new.self c.spent-slip.result c.requires.new c.spent-slip.ensures c.in-Ok.ensures.performs;
+  none = c.requires.none;
+  room = c.requires.room;
+}
+
+pub returns-in-Ok : goal.returns-in-Ok
+returns-in-Ok g c = record {
+  worked = finished g.S.Store.meaning c.args.book c.open.new.self _ c.args.calls.now _ _ c.requires.new c.in-Ok.ensures.performs c.make-calls.ensures;
+  remembers = refl;
+}
+
+pub returns-in-Err : goal.returns-in-Err
+returns-in-Err g c = record {
+  worked = unopened g.S.Store.meaning c.args.book c.open.new.self c.in-Err.fault _ c.requires.new c.in-Err.ensures.performs c.into-parts-store.ensures;
+  remembers = refl;
+}

@@ -1,0 +1,4 @@
+pub mod Made
+pub mod Works
+pub mod Drawn
+pub mod Extracts

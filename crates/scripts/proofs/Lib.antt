@@ -1,0 +1,13 @@
+mod Words
+mod Cut
+mod Steps
+mod Small
+mod Dotting
+mod Plain
+mod Stuffed
+mod ReadsBack
+mod ReadsAgain
+mod Placed
+mod Gathers
+mod Joins
+mod Computed

@@ -1,0 +1,10 @@
+pub mod Errors
+pub mod Lines
+pub mod Dots
+pub mod Scripts
+pub mod Walks
+pub mod Readers
+pub mod Theorems
+pub mod Rows
+pub mod Reads
+pub mod Examples

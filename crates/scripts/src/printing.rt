@@ -1,0 +1,67 @@
+// Printing an update as a script.
+ghost use Rattle.std.specs.Prelude.{◌≡◌, ◌^◌, ◌<◌, [], ◌∷◌, ◌++◌, IfOk, Ok, OnOk};
+ghost use Rattle.format.specs.Writing.{decimal};
+ghost use Rattle.scripts.specs.Reads.{update_of};
+ghost use Rattle.scripts.specs.Rows.{change_of};
+ghost use Rattle.scripts.specs.Scripts.{change_bytes, print_script, read_script};
+
+use crate::dots::add_text;
+use crate::row::{Change, Row};
+use crate::script::Script;
+use std::alloc::{AllocError, Global};
+
+// Appends a number in decimal.
+fn add_decimal(out: &mut Vec<u8>, n: u64) -> Result<(), AllocError>
+    requires { n < 10 ^ 10 }
+    ensures { OnOk result (out.new.items ≡ out.old.items ++ decimal n) }
+{
+    if n < 10 {
+        out.push(b'0' + n as u8)?;
+        return Ok(());
+    }
+    add_decimal(out, n / 10)?;
+    out.push(b'0' + (n % 10) as u8)?;
+    Ok(())
+}
+
+// Appends a line of a word and a number.
+fn add_head(out: &mut Vec<u8>, word: &[u8], n: u64) -> Result<(), AllocError>
+    requires { n < 10 ^ 10 }
+    ensures { OnOk result (out.new.items ≡ out.old.items ++ (word.now ++ (decimal n ++ (10 ∷ [])))) }
+{
+    out.extend_from_slice(word)?;
+    add_decimal(out, n)?;
+    out.push(b'\n')?;
+    Ok(())
+}
+
+// Appends a change.
+fn add_row(out: &mut Vec<u8>, row: &Row) -> Result<(), AllocError>
+    requires { row.now.number < 10 ^ 10 }
+    ensures { OnOk result (out.new.items ≡ out.old.items ++ change_bytes row.now.number (change_of row.now.change)) }
+{
+    match &row.change {
+        Change::Removed => {
+            add_head(out, b"remove ", row.number)?;
+            Ok(())
+        }
+        Change::Body(bytes) => {
+            add_head(out, b"put ", row.number)?;
+            add_text(out, bytes.as_slice())?;
+            out.extend_from_slice(b"\n.\n")?;
+            Ok(())
+        }
+    }
+}
+
+// The script of an update.
+pub fn print(heap: Global, script: &Script) -> Result<Vec<u8>, AllocError>
+    ensures bytes { IfOk result (λ v. v.items ≡ print_script (update_of script.now)) }
+    ensures back { IfOk result (λ v. read_script v.items ≡ Ok (update_of script.now)) }
+{
+    let mut out = Vec::new(heap);
+    for i in 0..script.rows.len() {
+        add_row(&mut out, &script.rows[i])?;
+    }
+    Ok(out)
+}
