@@ -7,11 +7,11 @@ pub loop-done-init : goal.loop-done-init
 unfolding same
 loop-done-init g c = (zero-le, refl, refl, refl)
 
-pub overflow-add-a : goal.overflow-add-a
-overflow-add-a g c = omega (arith, c.requires.counts, c.requires.first)
+pub overflow_add-a : goal.overflow_add-a
+overflow_add-a g c = omega (arith, c.requires.counts, c.requires.first)
 
-pub overflow-add-b : goal.overflow-add-b
-overflow-add-b g c = omega (arith, c.requires.counts, c.requires.second)
+pub overflow_add-b : goal.overflow_add-b
+overflow_add-b g c = omega (arith, c.requires.counts, c.requires.second)
 
 pub loop-done-preserved : goal.loop-done-preserved
 loop-done-preserved g c =
@@ -21,22 +21,22 @@ loop-done-preserved g c =
     let one : m ≤ c.read-one.result = omega (arith, c.min-many.ensures, c.read-one.ensures.count_is, c.requires.first) in
     let other : m ≤ c.read-other.result = omega (arith, c.min-many.ensures, c.read-other.ensures.count_is, c.requires.second) in
     let w = windows_same bytes _ _ _ _ _ _ _ _ m one other c.read-one.ensures c.read-other.ensures in
-    let e = sym w ∙ sym c.if-not-same-bytes.ensures in (
+    let e = sym w ∙ sym c.if-not-same_bytes.ensures in (
       few,
       omega (arith, c.read-one.auto.buffer),
       omega (arith, c.read-other.auto.buffer),
       alike_step bytes c.args.a c.args.b c.loop-done.done m _ (omega (arith, c.requires.first)) (omega (arith, c.requires.second)) c.loop-done.invariant.3 e,
     )
 
-pub returns-then-not-same-bytes : goal.returns-then-not-same-bytes
-returns-then-not-same-bytes g c =
+pub returns-then-not-same_bytes : goal.returns-then-not-same_bytes
+returns-then-not-same_bytes g c =
     let bytes = (g.S.Store.meaning c.args.store.now).bytes in
     let m = c.min-many.result in
     let few : c.loop-done.done + m ≤ c.args.count = omega (arith, c.min-many.ensures) in
     let one : m ≤ c.read-one.result = omega (arith, c.min-many.ensures, c.read-one.ensures.count_is, c.requires.first) in
     let other : m ≤ c.read-other.result = omega (arith, c.min-many.ensures, c.read-other.ensures.count_is, c.requires.second) in
     let w = windows_same bytes _ _ _ _ _ _ _ _ m one other c.read-one.ensures c.read-other.ensures in
-    let e = sym w ∙ sym c.if-not-same-bytes.ensures in
+    let e = sym w ∙ sym c.if-not-same_bytes.ensures in
     let f = alike_step bytes c.args.a c.args.b c.loop-done.done m _ (omega (arith, c.requires.first)) (omega (arith, c.requires.second)) c.loop-done.invariant.3 e in
     sym (unlike bytes c.args.a c.args.b (c.loop-done.done + m) c.args.count few c.requires.first c.requires.second f)
 

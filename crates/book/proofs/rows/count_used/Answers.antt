@@ -10,4 +10,4 @@ loop-i-preserved c =
     let inside : at < length c.args.cells.now = omega (arith, c.requires) in
     let cell = get_or c.args.cells.now at (Used 0 0 0) in
     let more = used_count c.args.cells.now c.args.first c.loop-i.i cell inside (get_or_default c.args.cells.now at (Used 0 0 0) cell inside) in
-    (omega (arith, more, c.is-used-count.ensures.is), omega (arith, c.is-used-count.ensures.small))
+    (omega (arith, more, c.is_used-count.ensures.is), omega (arith, c.is_used-count.ensures.small))

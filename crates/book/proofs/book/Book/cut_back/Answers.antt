@@ -6,8 +6,8 @@ use Rattle.book.proofs.Performed.{stayed, went_back}
 use Rattle.book.proofs.Questioned.{row_held}
 use Rattle.book.proofs.book.Book.cut_back.Goals as goal
 
-pub cells-end-cells-requires : goal.cells-end-cells-requires
-cells-end-cells-requires g c =
+pub cells_end-cells-requires : goal.cells_end-cells-requires
+cells_end-cells-requires g c =
     let b = c.args.self.now in
     let a = subst (λ rs. Found rs c.args.k (Some c.in-Some.row)) c.revisions.ensures c.in-Some.ensures in
     let l = ap length c.cells.ensures in
@@ -25,4 +25,4 @@ returns-in-Some g c =
     let a = subst (λ rs. Found rs c.args.k (Some c.in-Some.row)) c.revisions.ensures c.in-Some.ensures in
     let b' : Book g.row.S.Denot = record { store = c.cut.new.self; phase = b.phase; memory = record { tables = c.cut-in-Some.new.self; scratch = b.memory.scratch; held = b.memory.held; writer = b.memory.writer } } in
     went_back g.S.Store.meaning b b' c.args.k c.in-Some.row c.cut.result c.requires.sound c.requires.standing c.requires.standing a c.cut.ensures c.cut-in-Some.ensures.revisions
-    (c.cut-in-Some.ensures.cells ∙ ap (λ n. take n (cells_in b)) c.cells-end-cells.ensures)
+    (c.cut-in-Some.ensures.cells ∙ ap (λ n. take n (cells_in b)) c.cells_end-cells.ensures)

@@ -6,58 +6,58 @@ use Rattle.book.proofs.Compared.{opened_short, revision_of, lies, differ_first, 
 use Rattle.book.proofs.Questioned.{row_within}
 use Rattle.book.proofs.book.Book.differ.Goals as goal
 
-pub returns-in-err-earlier : goal.returns-in-err-earlier
-returns-in-err-earlier g c =
-    let p = err_from_is_err_and c.from-residual.result c.from-residual.ensures.1 in
-    let z : c.from-residual.result ≡ Err c.in-err-earlier.field-0.0 = cc in
-    z ∙ sym (differ_first _ c.args.j c.args.k c.args.n _ c.in-err-earlier.ensures)
+pub returns-in_err-earlier : goal.returns-in_err-earlier
+returns-in_err-earlier g c =
+    let p = err_from_is_err_and c.from_residual.result c.from_residual.ensures.1 in
+    let z : c.from_residual.result ≡ Err c.in_err-earlier.field-0.0 = cc in
+    z ∙ sym (differ_first _ c.args.j c.args.k c.args.n _ c.in_err-earlier.ensures)
 
-pub returns-in-err-later : goal.returns-in-err-later
-returns-in-err-later g c =
-    let r = c.in-ok-earlier.ensures in
+pub returns-in_err-later : goal.returns-in_err-later
+returns-in_err-later g c =
+    let r = c.in_ok-earlier.ensures in
     let m = moment_of g.S.Store.meaning c.args.self.now in
-    let v = revision_of m (revisions_in c.args.self.now) (cells_in c.args.self.now) c.args.n c.args.j c.in-ok-earlier.earlier r.0 r.1 in
-    let p = err_from_is_err_and c.from-residual-in-err-later.result c.from-residual-in-err-later.ensures.1 in
-    let z : c.from-residual-in-err-later.result ≡ Err c.in-err-later.field-0.0 = cc in
-    z ∙ sym (differ_second m c.args.j c.args.k c.args.n v.0 _ v.1 c.in-err-later.ensures)
+    let v = revision_of m (revisions_in c.args.self.now) (cells_in c.args.self.now) c.args.n c.args.j c.in_ok-earlier.earlier r.0 r.1 in
+    let p = err_from_is_err_and c.from_residual-in_err-later.result c.from_residual-in_err-later.ensures.1 in
+    let z : c.from_residual-in_err-later.result ≡ Err c.in_err-later.field-0.0 = cc in
+    z ∙ sym (differ_second m c.args.j c.args.k c.args.n v.0 _ v.1 c.in_err-later.ensures)
 
-pub body-of-before-requires : goal.body-of-before-requires
-body-of-before-requires g c =
-    let r = c.in-ok-earlier.ensures in
-    let w = row_within _ _ _ c.args.j c.in-ok-earlier.earlier r.0 r.1 in
+pub body_of-before-requires : goal.body_of-before-requires
+body_of-before-requires g c =
+    let r = c.in_ok-earlier.ensures in
+    let w = row_within _ _ _ c.args.j c.in_ok-earlier.earlier r.0 r.1 in
     let l = ap length c.cells.ensures in
     omega (arith, w, l)
 
-pub body-of-after-requires : goal.body-of-after-requires
-body-of-after-requires g c =
-    let r = c.in-ok-later.ensures in
-    let w = row_within _ _ _ c.args.k c.in-ok-later.later r.0 r.1 in
+pub body_of-after-requires : goal.body_of-after-requires
+body_of-after-requires g c =
+    let r = c.in_ok-later.ensures in
+    let w = row_within _ _ _ c.args.k c.in_ok-later.later r.0 r.1 in
     let l = ap length c.cells-2.ensures in
     omega (arith, w, l)
 
 pub compare-requires : goal.compare-requires
 compare-requires g c =
-    let r = c.in-ok-earlier.ensures in
-    let s = c.in-ok-later.ensures in
+    let r = c.in_ok-earlier.ensures in
+    let s = c.in_ok-later.ensures in
     let m = moment_of g.S.Store.meaning c.args.self.now in
     let rs = revisions_in c.args.self.now in
     let cs = cells_in c.args.self.now in
-    let x = subst (λ t. BodyFound t c.in-ok-earlier.earlier c.args.n c.body-of-before.result) c.cells.ensures c.body-of-before.ensures in
-    let y = subst (λ t. BodyFound t c.in-ok-later.later c.args.n c.body-of-after.result) c.cells-2.ensures c.body-of-after.ensures in
+    let x = subst (λ t. BodyFound t c.in_ok-earlier.earlier c.args.n c.body_of-before.result) c.cells.ensures c.body_of-before.ensures in
+    let y = subst (λ t. BodyFound t c.in_ok-later.later c.args.n c.body_of-after.result) c.cells-2.ensures c.body_of-after.ensures in
     record {
       counts = omega (arith, opened_short m.store.bytes r.0.opened r.0.accepted);
-      first = lies m rs cs c.args.j c.args.n c.in-ok-earlier.earlier _ r.0 r.1 x;
-      second = lies m rs cs c.args.k c.args.n c.in-ok-later.later _ s.0 s.1 y;
+      first = lies m rs cs c.args.j c.args.n c.in_ok-earlier.earlier _ r.0 r.1 x;
+      second = lies m rs cs c.args.k c.args.n c.in_ok-later.later _ s.0 s.1 y;
     }
 
 pub returns : goal.returns
 returns g c =
-    let r = c.in-ok-earlier.ensures in
-    let s = c.in-ok-later.ensures in
+    let r = c.in_ok-earlier.ensures in
+    let s = c.in_ok-later.ensures in
     let m = moment_of g.S.Store.meaning c.args.self.now in
     let rs = revisions_in c.args.self.now in
     let cs = cells_in c.args.self.now in
-    let x = subst (λ t. BodyFound t c.in-ok-earlier.earlier c.args.n c.body-of-before.result) c.cells.ensures c.body-of-before.ensures in
-    let y = subst (λ t. BodyFound t c.in-ok-later.later c.args.n c.body-of-after.result) c.cells-2.ensures c.body-of-after.ensures in
+    let x = subst (λ t. BodyFound t c.in_ok-earlier.earlier c.args.n c.body_of-before.result) c.cells.ensures c.body_of-before.ensures in
+    let y = subst (λ t. BodyFound t c.in_ok-later.later c.args.n c.body_of-after.result) c.cells-2.ensures c.body_of-after.ensures in
     ap Ok c.compare.ensures
-    ∙ sym (differ_by_cells m rs cs c.args.j c.args.k c.args.n c.in-ok-earlier.earlier c.in-ok-later.later _ _ r.0 r.1 s.1 x y)
+    ∙ sym (differ_by_cells m rs cs c.args.j c.args.k c.args.n c.in_ok-earlier.earlier c.in_ok-later.later _ _ r.0 r.1 s.1 x y)

@@ -12,19 +12,19 @@ use Rattle.book.proofs.Committed.{newest_reads, newest_trailer}
 use Rattle.book.proofs.Performed.{updating_sound, some_row, row_inside, newest_offset, newest_table, newest_place}
 use Rattle.book.proofs.book.Book.draft.Goals as goal
 
-pub last-row-row-requires : goal.last-row-row-requires
-last-row-row-requires g c = some_row g.S.Store.meaning c.args.self.now c.requires.sound c.requires.updating _ c.revisions.ensures
+pub last_row-row-requires : goal.last_row-row-requires
+last_row-row-requires g c = some_row g.S.Store.meaning c.args.self.now c.requires.sound c.requires.updating _ c.revisions.ensures
 
 pub unreachable-requires : goal.unreachable-requires
 unreachable-requires g c =
     let f = (g.S.Store.meaning c.args.self.now.store).bytes in
     let st = (updating_sound g.S.Store.meaning c.args.self.now c.requires.sound c.requires.updating).0 in
-    newest_reads f c.last-row-row.result.offset c.in-Err.field-0 (newest_section f st.opened st.accepted)
-    (newest_place g.S.Store.meaning c.args.self.now c.requires.sound c.requires.updating _ c.revisions.ensures c.last-row-row.result c.last-row-row.ensures)
+    newest_reads f c.last_row-row.result.offset c.in-Err.field-0 (newest_section f st.opened st.accepted)
+    (newest_place g.S.Store.meaning c.args.self.now c.requires.sound c.requires.updating _ c.revisions.ensures c.last_row-row.result c.last_row-row.ensures)
     c.in-Err.ensures.is
 
-pub cells-of-cells-requires : goal.cells-of-cells-requires
-cells-of-cells-requires g c = row_inside g.S.Store.meaning c.args.self.now c.requires.sound c.requires.updating _ c.revisions.ensures c.last-row-row.result c.last-row-row.ensures _ c.cells.ensures
+pub cells_of-cells-requires : goal.cells_of-cells-requires
+cells_of-cells-requires g c = row_inside g.S.Store.meaning c.args.self.now c.requires.sound c.requires.updating _ c.revisions.ensures c.last_row-row.result c.last_row-row.ensures _ c.cells.ensures
 
 pub write-requires : goal.write-requires
 write-requires g c =
@@ -32,14 +32,14 @@ write-requires g c =
     let f = (g.S.Store.meaning b.store).bytes in
     let st = (updating_sound g.S.Store.meaning c.args.self.now c.requires.sound c.requires.updating).0 in
     let known = bounded f (revisions_in b) (cells_in b) st in
-    let t = newest_table g.S.Store.meaning c.args.self.now c.requires.sound c.requires.updating _ c.revisions.ensures c.last-row-row.result c.last-row-row.ensures _ c.cells.ensures _ c.cells-of-cells.ensures in
-    let o = newest_offset g.S.Store.meaning c.args.self.now c.requires.sound c.requires.updating _ c.revisions.ensures c.last-row-row.result c.last-row-row.ensures _ c.cells.ensures in
-    let a = subst (λ rs. RowAt rs (length rs) c.last-row-row.result) c.revisions.ensures c.last-row-row.ensures in
-    let cells_are = c.cells-of-cells.ensures ∙ ap (λ cs. cells_of cs c.last-row-row.result) c.cells.ensures in
-    let seen = subst (λ w. TrailerSeen f c.last-row-row.result.offset w c.in-Ok.place) (sym c.seen.ensures) c.in-Ok.ensures.is in
+    let t = newest_table g.S.Store.meaning c.args.self.now c.requires.sound c.requires.updating _ c.revisions.ensures c.last_row-row.result c.last_row-row.ensures _ c.cells.ensures _ c.cells_of-cells.ensures in
+    let o = newest_offset g.S.Store.meaning c.args.self.now c.requires.sound c.requires.updating _ c.revisions.ensures c.last_row-row.result c.last_row-row.ensures _ c.cells.ensures in
+    let a = subst (λ rs. RowAt rs (length rs) c.last_row-row.result) c.revisions.ensures c.last_row-row.ensures in
+    let cells_are = c.cells_of-cells.ensures ∙ ap (λ cs. cells_of cs c.last_row-row.result) c.cells.ensures in
+    let seen = subst (λ w. TrailerSeen f c.last_row-row.result.offset w c.in-Ok.place) (sym c.seen.ensures) c.in-Ok.ensures.is in
     record {
       size = omega (arith, t.size, known.size);
-      generations = subst GenerationsFit (sym cells_are) (known.generations c.last-row-row.result a);
+      generations = subst GenerationsFit (sym cells_are) (known.generations c.last_row-row.result a);
       len = omega (arith, c.len.ensures, known.short);
       prev = omega (arith, o, known.offset, known.short);
       readable = (seen.sec.trailer, (seen.closes, seen.behind, seen.trailer));
@@ -52,10 +52,10 @@ returns g c =
     let b = c.args.self.now in
     let f = (g.S.Store.meaning b.store).bytes in
     let st = (updating_sound g.S.Store.meaning c.args.self.now c.requires.sound c.requires.updating).0 in
-    let t = newest_table g.S.Store.meaning c.args.self.now c.requires.sound c.requires.updating _ c.revisions.ensures c.last-row-row.result c.last-row-row.ensures _ c.cells.ensures _ c.cells-of-cells.ensures in
-    let o = newest_offset g.S.Store.meaning c.args.self.now c.requires.sound c.requires.updating _ c.revisions.ensures c.last-row-row.result c.last-row-row.ensures _ c.cells.ensures in
-    let seen = subst (λ w. TrailerSeen f c.last-row-row.result.offset w c.in-Ok.place) (sym c.seen.ensures) c.in-Ok.ensures.is in
-    let w = c.write.ensures f (newest f) t o (newest_trailer f c.last-row-row.result.offset _ c.in-Ok.place (newest_section f st.opened st.accepted) o seen) in
+    let t = newest_table g.S.Store.meaning c.args.self.now c.requires.sound c.requires.updating _ c.revisions.ensures c.last_row-row.result c.last_row-row.ensures _ c.cells.ensures _ c.cells_of-cells.ensures in
+    let o = newest_offset g.S.Store.meaning c.args.self.now c.requires.sound c.requires.updating _ c.revisions.ensures c.last_row-row.result c.last_row-row.ensures _ c.cells.ensures in
+    let seen = subst (λ w. TrailerSeen f c.last_row-row.result.offset w c.in-Ok.place) (sym c.seen.ensures) c.in-Ok.ensures.is in
+    let w = c.write.ensures f (newest f) t o (newest_trailer f c.last_row-row.result.offset _ c.in-Ok.place (newest_section f st.opened st.accepted) o seen) in
     record {
       store = refl;
       phase = refl;

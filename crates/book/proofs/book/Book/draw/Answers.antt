@@ -9,16 +9,16 @@ use Rattle.book.specs.Asked.{Draws}
 use Rattle.book.proofs.Questioned.{draw_refused}
 use Rattle.book.proofs.book.Book.draw.Goals as goal
 
-pub returns-in-err-row : goal.returns-in-err-row
-returns-in-err-row g c =
-    let p = err_from_is_err_and c.from-residual.result c.from-residual.ensures.1 in
-    let z : c.from-residual.result ≡ Err c.in-err-row.field-0.0 = cc in
-    rw z (draw_refused _ c.args.k _ _ c.in-err-row.ensures, refl)
+pub returns-in_err-row : goal.returns-in_err-row
+returns-in_err-row g c =
+    let p = err_from_is_err_and c.from_residual.result c.from_residual.ensures.1 in
+    let z : c.from_residual.result ≡ Err c.in_err-row.field-0.0 = cc in
+    rw z (draw_refused _ c.args.k _ _ c.in_err-row.ensures, refl)
 
 pub returns-then-row-space : goal.returns-then-row-space
 returns-then-row-space g c =
-    let r = c.in-ok-row.ensures in
-    let q = c.in-ok-row.row in
+    let r = c.in_ok-row.ensures in
+    let q = c.in_ok-row.row in
     let s = (g.T.Store.meaning c.args.out.now).space in
     let d = (draw_rows _ _ _ c.args.k s r.0).some q r.1 in
     let file = (g.S.Store.meaning c.args.self.now.store).bytes in
@@ -26,16 +26,16 @@ returns-then-row-space g c =
 
 pub join-requires : goal.join-requires
 join-requires g c =
-    let r = c.in-ok-row.ensures in
+    let r = c.in_ok-row.ensures in
     record {
-      inside = (draw_rows _ _ _ c.args.k 0 r.0).short c.in-ok-row.row r.1;
+      inside = (draw_rows _ _ _ c.args.k 0 r.0).short c.in_ok-row.row r.1;
       room = omega (arith, c.space.ensures);
     }
 
 pub returns : goal.returns
 returns g c =
-    let r = c.in-ok-row.ensures in
-    let q = c.in-ok-row.row in
+    let r = c.in_ok-row.ensures in
+    let q = c.in_ok-row.row in
     let s = (g.T.Store.meaning c.args.out.now).space in
     let d = (draw_rows _ _ _ c.args.k s r.0).some q r.1 in
     let file = (g.S.Store.meaning c.args.self.now.store).bytes in

@@ -8,51 +8,51 @@ use Rattle.book.specs.Rows.{BodyFound}
 use Rattle.book.proofs.Questioned.{fetch_refused, row_within, unused, too_short, fetched}
 use Rattle.book.proofs.book.Book.fetch.Goals as goal
 
-pub returns-in-err-row : goal.returns-in-err-row
-returns-in-err-row g c =
-    let p = err_from_is_err_and c.from-residual.result c.from-residual.ensures.1 in
-    let z : c.from-residual.result ≡ Err c.in-err-row.field-0.0 = cc in
-    rw z (fetch_refused _ c.args.k c.args.n _ _ c.in-err-row.ensures, refl)
+pub returns-in_err-row : goal.returns-in_err-row
+returns-in_err-row g c =
+    let p = err_from_is_err_and c.from_residual.result c.from_residual.ensures.1 in
+    let z : c.from_residual.result ≡ Err c.in_err-row.field-0.0 = cc in
+    rw z (fetch_refused _ c.args.k c.args.n _ _ c.in_err-row.ensures, refl)
 
-pub body-of-requires : goal.body-of-requires
-body-of-requires g c =
-    let r = c.in-ok-row.ensures in
-    let w = row_within _ _ _ c.args.k c.in-ok-row.row r.0 r.1 in
+pub body_of-requires : goal.body_of-requires
+body_of-requires g c =
+    let r = c.in_ok-row.ensures in
+    let w = row_within _ _ _ c.args.k c.in_ok-row.row r.0 r.1 in
     let l = ap length c.cells.ensures in
     omega (arith, w, l)
 
-pub body-into-requires : goal.body-into-requires
-body-into-requires g c =
-    let r = c.in-ok-row.ensures in
+pub body_into-requires : goal.body_into-requires
+body_into-requires g c =
+    let r = c.in_ok-row.ensures in
     let m = moment_of g.S.Store.meaning c.args.self.now in
-    let a = subst (λ cs. BodyFound cs c.in-ok-row.row c.args.n (Some c.in-Some.body)) c.cells.ensures c.in-Some.ensures in
-    let e = (fetch_cells m (revisions_in c.args.self.now) (cells_in c.args.self.now) c.args.k c.args.n 0 r.0).ends c.in-ok-row.row _ r.1 a in
+    let a = subst (λ cs. BodyFound cs c.in_ok-row.row c.args.n (Some c.in-Some.body)) c.cells.ensures c.in-Some.ensures in
+    let e = (fetch_cells m (revisions_in c.args.self.now) (cells_in c.args.self.now) c.args.k c.args.n 0 r.0).ends c.in_ok-row.row _ r.1 a in
     record { order = e.0; inside = e.1 }
 
-pub returns-in-err-length : goal.returns-in-err-length
-returns-in-err-length g c =
-    let r = c.in-ok-row.ensures in
+pub returns-in_err-length-in-Some : goal.returns-in_err-length-in-Some
+returns-in_err-length-in-Some g c =
+    let r = c.in_ok-row.ensures in
     let m = moment_of g.S.Store.meaning c.args.self.now in
-    let a = subst (λ cs. BodyFound cs c.in-ok-row.row c.args.n (Some c.in-Some.body)) c.cells.ensures c.in-Some.ensures in
-    let p = err_from_is_err_and c.from-residual-in-err-length.result c.from-residual-in-err-length.ensures.1 in
-    let z : c.from-residual-in-err-length.result ≡ Err c.in-err-length.field-0.0 = cc in
-    let b = subst (λ x. BodyInto (part (g.S.Store.meaning c.args.self.now.store).bytes c.in-Some.body.start c.in-Some.body.end) (c.in-Some.body.end - c.in-Some.body.start) c.args.n c.args.buffer.now x c.body-into.new.buffer) c.in-err-length.was c.body-into.ensures in
-    rw z (too_short m (revisions_in c.args.self.now) (cells_in c.args.self.now) c.args.k c.args.n _ _ _ _ c.in-ok-row.row r.0 r.1 a b.0 ∙ ap Err (sym b.1), b.2)
+    let a = subst (λ cs. BodyFound cs c.in_ok-row.row c.args.n (Some c.in-Some.body)) c.cells.ensures c.in-Some.ensures in
+    let p = err_from_is_err_and c.from_residual-in_err-length-in-Some.result c.from_residual-in_err-length-in-Some.ensures.1 in
+    let z : c.from_residual-in_err-length-in-Some.result ≡ Err c.in_err-length-in-Some.field-0.0 = cc in
+    let b = subst (λ x. BodyInto (part (g.S.Store.meaning c.args.self.now.store).bytes c.in-Some.body.start c.in-Some.body.end) (c.in-Some.body.end - c.in-Some.body.start) c.args.n c.args.buffer.now x c.body_into.new.buffer) c.in_err-length-in-Some.was c.body_into.ensures in
+    rw z (too_short m (revisions_in c.args.self.now) (cells_in c.args.self.now) c.args.k c.args.n _ _ _ _ c.in_ok-row.row r.0 r.1 a b.0 ∙ ap Err (sym b.1), b.2)
 
-pub returns-in-ok-length : goal.returns-in-ok-length
-returns-in-ok-length g c =
-    let r = c.in-ok-row.ensures in
+pub returns-in_ok-length-in-Some : goal.returns-in_ok-length-in-Some
+returns-in_ok-length-in-Some g c =
+    let r = c.in_ok-row.ensures in
     let m = moment_of g.S.Store.meaning c.args.self.now in
-    let a = subst (λ cs. BodyFound cs c.in-ok-row.row c.args.n (Some c.in-Some.body)) c.cells.ensures c.in-Some.ensures in
-    let b = subst (λ x. BodyInto (part (g.S.Store.meaning c.args.self.now.store).bytes c.in-Some.body.start c.in-Some.body.end) (c.in-Some.body.end - c.in-Some.body.start) c.args.n c.args.buffer.now x c.body-into.new.buffer) c.in-ok-length.was c.body-into.ensures in
-    let e = (fetch_cells m (revisions_in c.args.self.now) (cells_in c.args.self.now) c.args.k c.args.n 0 r.0).ends c.in-ok-row.row _ r.1 a in
+    let a = subst (λ cs. BodyFound cs c.in_ok-row.row c.args.n (Some c.in-Some.body)) c.cells.ensures c.in-Some.ensures in
+    let b = subst (λ x. BodyInto (part (g.S.Store.meaning c.args.self.now.store).bytes c.in-Some.body.start c.in-Some.body.end) (c.in-Some.body.end - c.in-Some.body.start) c.args.n c.args.buffer.now x c.body_into.new.buffer) c.in_ok-length-in-Some.was c.body_into.ensures in
+    let e = (fetch_cells m (revisions_in c.args.self.now) (cells_in c.args.self.now) c.args.k c.args.n 0 r.0).ends c.in_ok-row.row _ r.1 a in
     let file = (g.S.Store.meaning c.args.self.now.store).bytes in
     let l : c.in-Some.body.end - c.in-Some.body.start ≡ length (part file c.in-Some.body.start c.in-Some.body.end) = simp (length-take, length-drop) (omega (arith, e.0, e.1)) in
-    (part file c.in-Some.body.start c.in-Some.body.end, fetched m (revisions_in c.args.self.now) (cells_in c.args.self.now) c.args.k c.args.n _ _ _ _ c.in-ok-row.row r.0 r.1 a b.0, b.1 ∙ l, b.2)
+    (part file c.in-Some.body.start c.in-Some.body.end, fetched m (revisions_in c.args.self.now) (cells_in c.args.self.now) c.args.k c.args.n _ _ _ _ c.in_ok-row.row r.0 r.1 a b.0, b.1 ∙ l, b.2)
 
 pub returns-in-None : goal.returns-in-None
 returns-in-None g c =
-    let r = c.in-ok-row.ensures in
+    let r = c.in_ok-row.ensures in
     let m = moment_of g.S.Store.meaning c.args.self.now in
-    let a = subst (λ cs. BodyFound cs c.in-ok-row.row c.args.n None) c.cells.ensures c.in-None.ensures in
-    (unused m (revisions_in c.args.self.now) (cells_in c.args.self.now) c.args.k c.args.n _ c.in-ok-row.row r.0 r.1 a ∙ ap Err (sym c.refused.ensures), refl)
+    let a = subst (λ cs. BodyFound cs c.in_ok-row.row c.args.n None) c.cells.ensures c.in-None.ensures in
+    (unused m (revisions_in c.args.self.now) (cells_in c.args.self.now) c.args.k c.args.n _ c.in_ok-row.row r.0 r.1 a ∙ ap Err (sym c.refused.ensures), refl)

@@ -10,30 +10,30 @@ use Rattle.book.proofs.Performed.{performs_at, refused_at, updating_sound, updat
 use Rattle.book.proofs.Steps.{put_step}
 use Rattle.book.proofs.book.Book.hold_body.Goals as goal
 
-pub last-row-row-requires : goal.last-row-row-requires
-last-row-row-requires g c = some_row g.S.Store.meaning c.args.self.now c.requires.sound c.requires.updating _ c.revisions.ensures
+pub last_row-row-requires : goal.last_row-row-requires
+last_row-row-requires g c = some_row g.S.Store.meaning c.args.self.now c.requires.sound c.requires.updating _ c.revisions.ensures
 
-pub cells-of-cells-requires : goal.cells-of-cells-requires
-cells-of-cells-requires g c =
-    row_inside g.S.Store.meaning c.args.self.now c.requires.sound c.requires.updating _ c.revisions.ensures c.last-row-row.result c.last-row-row.ensures _ c.cells.ensures
+pub cells_of-cells-requires : goal.cells_of-cells-requires
+cells_of-cells-requires g c =
+    row_inside g.S.Store.meaning c.args.self.now c.requires.sound c.requires.updating _ c.revisions.ensures c.last_row-row.result c.last_row-row.ensures _ c.cells.ensures
 
-pub returns-in-err-decide-put : goal.returns-in-err-decide-put
+pub returns-in_err-decide_put : goal.returns-in_err-decide_put
 unfolding decide
-returns-in-err-decide-put g c =
+returns-in_err-decide_put g c =
     let b = c.args.self.now in
     let f = (g.S.Store.meaning b.store).bytes in
-    let t = newest_table g.S.Store.meaning b c.requires.sound c.requires.updating _ c.revisions.ensures c.last-row-row.result c.last-row-row.ensures _ c.cells.ensures _ c.cells-of-cells.ensures in
-    let d = c.in-err-decide-put.ensures f (newest f) t in
-    let p = err_from_is_err_and c.from-residual.result c.from-residual.ensures.1 in
-    let z : c.from-residual.result ≡ Err c.in-err-decide-put.field-0.0 = cc in
-    rw z (refused_at g.S.Store.meaning b (put false c.args.number c.args.body.now) c.in-err-decide-put.field-0.0 (updating (update_in b)) (updating_phase g.S.Store.meaning b c.requires.sound c.requires.updating) (sym d) c.requires.sound)
+    let t = newest_table g.S.Store.meaning b c.requires.sound c.requires.updating _ c.revisions.ensures c.last_row-row.result c.last_row-row.ensures _ c.cells.ensures _ c.cells_of-cells.ensures in
+    let d = c.in_err-decide_put.ensures f (newest f) t in
+    let p = err_from_is_err_and c.from_residual.result c.from_residual.ensures.1 in
+    let z : c.from_residual.result ≡ Err c.in_err-decide_put.field-0.0 = cc in
+    rw z (refused_at g.S.Store.meaning b (put false c.args.number c.args.body.now) c.in_err-decide_put.field-0.0 (updating (update_in b)) (updating_phase g.S.Store.meaning b c.requires.sound c.requires.updating) (sym d) c.requires.sound)
 
 pub put-requires : goal.put-requires
 put-requires g c =
     let b = c.args.self.now in
     let f = (g.S.Store.meaning b.store).bytes in
-    let t = newest_table g.S.Store.meaning b c.requires.sound c.requires.updating _ c.revisions.ensures c.last-row-row.result c.last-row-row.ensures _ c.cells.ensures _ c.cells-of-cells.ensures in
-    let r = put_room (newest f) (update_in b) c.args.number c.args.body.now (sym (c.in-ok-decide-put.ensures f (newest f) t)) in
+    let t = newest_table g.S.Store.meaning b c.requires.sound c.requires.updating _ c.revisions.ensures c.last_row-row.result c.last_row-row.ensures _ c.cells.ensures _ c.cells_of-cells.ensures in
+    let r = put_room (newest f) (update_in b) c.args.number c.args.body.now (sym (c.in_ok-decide_put.ensures f (newest f) t)) in
     record { free = r.0; room = r.1 }
 
 pub returns : goal.returns
@@ -41,8 +41,8 @@ returns g c =
     let b = c.args.self.now in
     let m = g.S.Store.meaning in
     let f = (m b.store).bytes in
-    let t = newest_table m b c.requires.sound c.requires.updating _ c.revisions.ensures c.last-row-row.result c.last-row-row.ensures _ c.cells.ensures _ c.cells-of-cells.ensures in
-    let d = sym (c.in-ok-decide-put.ensures f (newest f) t) in
+    let t = newest_table m b c.requires.sound c.requires.updating _ c.revisions.ensures c.last_row-row.result c.last_row-row.ensures _ c.cells.ensures _ c.cells_of-cells.ensures in
+    let d = sym (c.in_ok-decide_put.ensures f (newest f) t) in
     let u = with_change c.args.number (body c.args.body.now) (update_in b) in
     performs_at m b _ (put false c.args.number c.args.body.now) (Ok tt) (updating (update_in b)) (updating u)
     (updating_phase m b c.requires.sound c.requires.updating)

@@ -8,20 +8,20 @@ use Rattle.book.proofs.Performed.{performs_at}
 use Rattle.book.proofs.Steps.{opened_step, unopened_step}
 use Rattle.book.proofs.book.Book.read_in.Goals as goal
 
-pub returns-in-err-open-file : goal.returns-in-err-open-file
-returns-in-err-open-file g c =
+pub returns-in_err-open_file : goal.returns-in_err-open_file
+returns-in_err-open_file g c =
     let b = c.args.self.now in
     let m = g.S.Store.meaning in
-    let p = err_from_is_err_and c.from-residual.result c.from-residual.ensures.1 in
-    let z : c.from-residual.result ≡ Err c.in-err-open-file.field-0.0 = cc in
+    let p = err_from_is_err_and c.from_residual.result c.from_residual.ensures.1 in
+    let z : c.from_residual.result ≡ Err c.in_err-open_file.field-0.0 = cc in
     let e = ap (λ q. phase_of q (update_in b)) c.requires in
-    rw z (performs_at m b _ open_file (Err c.in-err-open-file.field-0.0) shut shut e e (unopened_step (m b.store) _ c.in-err-open-file.ensures.is) tt)
+    rw z (performs_at m b _ open_file (Err c.in_err-open_file.field-0.0) shut shut e e (unopened_step (m b.store) _ c.in_err-open_file.ensures.is) tt)
 
 pub returns : goal.returns
 returns g c =
     let b = c.args.self.now in
     let m = g.S.Store.meaning in
-    let o = c.in-ok-open-file.ensures.is in
+    let o = c.in_ok-open_file.ensures.is in
     performs_at m b _ open_file (Ok tt) shut standing (ap (λ q. phase_of q (update_in b)) c.requires) refl
     (opened_step (m b.store) o.0 o.1)
     (sound_stays.opening (m b.store).bytes o.0 _ _ o.1 o.3)

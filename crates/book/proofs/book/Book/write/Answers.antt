@@ -10,35 +10,35 @@ use Rattle.book.proofs.Committed.{drafted_sound, from_before, offset_small, few_
 use Rattle.book.proofs.Performed.{refused_at, updating_phase}
 use Rattle.book.proofs.book.Book.write.Goals as goal
 
-pub returns-in-err-check-commit : goal.returns-in-err-check-commit
+pub returns-in_err-check_commit : goal.returns-in_err-check_commit
 unfolding decide
-returns-in-err-check-commit g c =
+returns-in_err-check_commit g c =
     let m = g.S.Store.meaning in
     let b = c.args.self.now in
     let b' = c.draft-objects.new.self in
     let D = c.draft-objects.ensures in
     let sound = drafted_sound m b b' _ D c.requires.sound in
-    let p = err_from_is_err_and c.from-residual.result c.from-residual.ensures.1 in
-    let z : c.from-residual.result ≡ Err c.in-err-check-commit.field-0.0 = cc in
+    let p = err_from_is_err_and c.from_residual.result c.from_residual.ensures.1 in
+    let z : c.from_residual.result ≡ Err c.in_err-check_commit.field-0.0 = cc in
     let e = D.phase ∙ c.requires.updating in
-    rw z (from_before m b b' _ D (commit false) (Err c.in-err-check-commit.field-0.0) b'
-    (refused_at m b' (commit false) c.in-err-check-commit.field-0.0 (updating (update_in b')) (updating_phase m b' sound e) (sym c.in-err-check-commit.ensures) sound))
+    rw z (from_before m b b' _ D (commit false) (Err c.in_err-check_commit.field-0.0) b'
+    (refused_at m b' (commit false) c.in_err-check_commit.field-0.0 (updating (update_in b')) (updating_phase m b' sound e) (sym c.in_err-check_commit.ensures) sound))
 
-pub overflow-add-offset : goal.overflow-add-offset
-overflow-add-offset g c =
+pub overflow_add-offset : goal.overflow_add-offset
+overflow_add-offset g c =
     let m = g.S.Store.meaning in
     let b' = c.draft-objects.new.self in
     let D = c.draft-objects.ensures in
     let sound = drafted_sound m c.args.self.now b' _ D c.requires.sound in
-    omega (arith, c.len.ensures, offset_small m b' sound (D.phase ∙ c.requires.updating) c.draft-objects.result D.drafted (sym c.in-ok-check-commit.ensures))
+    omega (arith, c.len.ensures, offset_small m b' sound (D.phase ∙ c.requires.updating) c.draft-objects.result D.drafted (sym c.in_ok-check_commit.ensures))
 
-pub read-revision-requires : goal.read-revision-requires
-read-revision-requires g c =
+pub read_revision-requires : goal.read_revision-requires
+read_revision-requires g c =
     let m = g.S.Store.meaning in
     let b' = c.draft-objects.new.self in
     let D = c.draft-objects.ensures in
     let sound = drafted_sound m c.args.self.now b' _ D c.requires.sound in
-    let accepted = sym c.in-ok-check-commit.ensures in
+    let accepted = sym c.in_ok-check_commit.ensures in
     record {
       few = few_rows m b' sound (D.phase ∙ c.requires.updating) c.draft-objects.result D.drafted accepted;
       tabled = rows_tabled m b' sound (D.phase ∙ c.requires.updating) c.draft-objects.result D.drafted accepted;
@@ -55,13 +55,13 @@ returns g c =
     record {
       store = c.append.new.self;
       phase = Standing;
-      memory = record { tables = c.read-revision.new.tables; scratch = c.read-revision.new.scratch; held = b'.memory.held; writer = b'.memory.writer };
+      memory = record { tables = c.read_revision.new.tables; scratch = c.read_revision.new.scratch; held = b'.memory.held; writer = b'.memory.writer };
     } in
     let n = c.draft-objects.result in
     from_before m b b' n D (commit false) (Ok tt) b''
-    (committed m b' sound (D.phase ∙ c.requires.updating) n D.drafted (sym c.in-ok-check-commit.ensures) b'' c.append.result c.read-revision.result
-    (subst (λ more. Appends (m b'.store) more c.append.result (m b''.store)) c.as-slice.ensures c.append.ensures)
+    (committed m b' sound (D.phase ∙ c.requires.updating) n D.drafted (sym c.in_ok-check_commit.ensures) b'' c.append.result c.read_revision.result
+    (subst (λ more. Appends (m b'.store) more c.append.result (m b''.store)) c.as_slice.ensures c.append.ensures)
     (λ h t l.
-    subst (λ k. Revised (m b''.store).bytes h (k + n) c.read-revision.result (revisions_in b'') (cells_in b'')) c.len.ensures
-    (c.read-revision.ensures.is h t (subst (λ k. (newest_or blank h).offset ≤ k + n) (sym c.len.ensures) l)))
+    subst (λ k. Revised (m b''.store).bytes h (k + n) c.read_revision.result (revisions_in b'') (cells_in b'')) c.len.ensures
+    (c.read_revision.ensures.is h t (subst (λ k. (newest_or blank h).offset ≤ k + n) (sym c.len.ensures) l)))
     refl)
