@@ -7,7 +7,7 @@ use Rattle.entries.specs.declared.cell.Cell.{Cell}
 use Rattle.entries.specs.declared.revision.Revision.{Revision}
 use Rattle.entries.specs.Tables.{Stacked, TablesOf}
 use Rattle.records.specs.declared.link.Link.{Link}
-use Rattle.records.specs.declared.tables.Tables.{Tables}
+use Rattle.records.specs.declared.revision_tables.Tables.{Tables}
 use Rattle.records.specs.Links.{next_revision}
 
 abbrev pub revisions_held : Tables → List Revision

@@ -4,14 +4,14 @@
 mod chain;
 mod check;
 mod link;
-mod objects;
+mod listed;
 pub mod open;
 pub mod revision;
+pub mod revision_tables;
 mod root;
 mod rows;
 pub mod scratch;
 mod section;
 mod table;
-pub mod tables;
 pub mod trailer;
 mod window;

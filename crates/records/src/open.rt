@@ -8,8 +8,8 @@ ghost use Rattle.records.specs.Tabled.{Tabled, cells_held, revisions_held};
 
 use crate::chain::walk;
 use crate::revision::read_revision;
+use crate::revision_tables::Tables;
 use crate::scratch::Scratch;
-use crate::tables::Tables;
 use crate::window::Window;
 use faults::fault::Fault;
 use faults::layer::Layer;

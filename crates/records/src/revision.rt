@@ -6,10 +6,10 @@ ghost use Rattle.entries.specs.Tables.{TablesOf};
 ghost use Rattle.records.specs.Tabled.{Revised, Tabled, cells_held, revisions_held};
 
 use crate::check::{check_rows, subsections_fit};
-use crate::objects::read_objects;
+use crate::listed::read_objects;
+use crate::revision_tables::Tables;
 use crate::scratch::Scratch;
 use crate::section::read_link;
-use crate::tables::Tables;
 use faults::fault::Fault;
 use stores::store::Store;
 

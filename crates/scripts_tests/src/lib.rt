@@ -63,14 +63,14 @@ mod tests {
             rt.alloc(),
             b"# limits\n\nput 12\n..5 MPa\n\nat 20 C\n.\nremove 7\n",
         )?;
-        assert!(rt; text.as_slice() == b"remove 7\nput 12\n..5 MPa\n\nat 20 C\n.\n");
+        assert!(rt; text.as_slice() == b"remove 7\nput 12\n..5 MPa\n\nat 20 C\n.\n".as_slice());
         Ok(())
     }
 
     #[test]
     fn empty_bodies(rt: HostRuntime) -> Result<(), Fail> {
         let text = tidied(rt.alloc(), b"put 2\n\n.\nput 1\n.")?;
-        assert!(rt; text.as_slice() == b"put 1\n\n.\nput 2\n\n.\n");
+        assert!(rt; text.as_slice() == b"put 1\n\n.\nput 2\n\n.\n".as_slice());
         Ok(())
     }
 
@@ -106,7 +106,7 @@ mod tests {
         };
         let mut body = Vec::new(rt.alloc());
         add_body(&mut body, text)?;
-        assert!(rt; body.as_slice() == b".5");
+        assert!(rt; body.as_slice() == b".5".as_slice());
         let second = reader.next()?.ok_or("no change")?;
         assert!(rt; second.line == 5 && second.number == 7);
         assert!(rt; reader.next()?.is_none());

@@ -3,7 +3,7 @@ ghost use Rattle.std.specs.Prelude.{◌≤◌, vec_len, vec_capacity};
 
 mod appends;
 mod digits;
-mod objects;
+mod object;
 mod section;
 
 // At most `limit` bytes: the memory for them is there.

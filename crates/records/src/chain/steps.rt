@@ -5,9 +5,9 @@ ghost use Rattle.records.specs.Chained.{ReadsNext, Walked, may_end};
 ghost use Rattle.records.specs.declared.chain.Ending.TheVariants.{At};
 
 use crate::chain::Ending;
+use crate::revision_tables::MOST_REVISIONS;
 use crate::rows::broken_rule;
 use crate::section::read_link;
-use crate::tables::MOST_REVISIONS;
 use crate::window::Window;
 use faults::fault::Fault;
 use faults::layer::Layer;

@@ -3,7 +3,7 @@ ghost use Rattle.std.specs.Prelude.{◌≡◌};
 ghost use Rattle.records.specs.Trailers.{seen_by};
 
 use super::Scratch;
-use crate::tables::MOST_REVISIONS;
+use crate::revision_tables::MOST_REVISIONS;
 use crate::window::Window;
 use opening::rows::{MOST_ROWS, Rows};
 use std::alloc::{AllocError, Global};

@@ -2,7 +2,7 @@ use Rattle.std.proofs.Common.{◌≡◌, Err, vec_items, refl, ◌∙◌, arith}
 use Rattle.std.proofs.lemmas.Result.{err_from_is_err_and}
 use Rattle.records.proofs.Listings.{no_row}
 use Rattle.records.proofs.Reading.{read_start, read_more, read_stop, read_end, ends_more}
-use Rattle.records.proofs.objects.read_objects.Goals as goal
+use Rattle.records.proofs.listed.read_objects.Goals as goal
 
 pub loop-row-init : goal.loop-row-init
 loop-row-init g c =

@@ -1,5 +1,5 @@
 use Rattle.records.proofs.Reading.{free_read}
-use Rattle.records.proofs.objects.row_cell.Goals as goal
+use Rattle.records.proofs.listed.row_cell.Goals as goal
 
 pub returns-else-row : goal.returns-else-row
 returns-else-row g c = record {

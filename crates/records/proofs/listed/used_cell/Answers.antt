@@ -1,7 +1,7 @@
 use Rattle.std.proofs.Common.{◌≡◌, ◌-◌, min, take, drop, Err, sym, ap, ◌∙◌, arith}
 use Rattle.format.specs.Chain.{window_bytes}
 use Rattle.records.proofs.Reading.{window_counts, frame_read, frame_refused, frame_ends}
-use Rattle.records.proofs.objects.used_cell.Goals as goal
+use Rattle.records.proofs.listed.used_cell.Goals as goal
 
 pub read_frame_at-requires : goal.read_frame_at-requires
 read_frame_at-requires g c =

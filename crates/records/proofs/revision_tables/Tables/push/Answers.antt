@@ -3,7 +3,7 @@ use Rattle.format.specs.Revisions.{covered}
 use Rattle.entries.specs.Rows.{rows_of}
 use Rattle.records.specs.Tabled.{last_first, newest_cells}
 use Rattle.records.proofs.Tabling.{stacked_total}
-use Rattle.records.proofs.tables.Tables.push.Goals as goal
+use Rattle.records.proofs.revision_tables.Tables.push.Goals as goal
 
 pub lay-requires : goal.lay-requires
 lay-requires c =

@@ -1,6 +1,6 @@
 use Rattle.std.proofs.Common.{length, vec_items, ap, arith, length-drop, length-take}
 use Rattle.records.proofs.Tabling.{cells_from}
-use Rattle.records.proofs.tables.Tables.newest_cells.Goals as goal
+use Rattle.records.proofs.revision_tables.Tables.newest_cells.Goals as goal
 
 pub returns : goal.returns
 returns c =

@@ -3,7 +3,7 @@ use Rattle.format.specs.Revisions.{slots_fit}
 use Rattle.entries.specs.Cells.{AllEndBy}
 use Rattle.entries.specs.Rows.{rows_of}
 use Rattle.records.proofs.Reading.{ReadSo}
-use Rattle.records.proofs.objects.read_objects.Given as goal
+use Rattle.records.proofs.listed.read_objects.Given as goal
 
 abbrev pub invariant-loop-row : goal.invariant-loop-row
 invariant-loop-row g l =

@@ -1,7 +1,7 @@
 use Rattle.std.proofs.Common.{◌≡◌, length, vec_items, ap, arith}
 use Rattle.records.specs.Tabled.{last_first}
 use Rattle.records.proofs.Tabling.{last_within, last_none, last_read}
-use Rattle.records.proofs.tables.Tables.newest_start.Goals as goal
+use Rattle.records.proofs.revision_tables.Tables.newest_start.Goals as goal
 
 pub returns-in-None : goal.returns-in-None
 returns-in-None c =
