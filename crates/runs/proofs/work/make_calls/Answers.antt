@@ -7,18 +7,18 @@ pub loop-call-init : goal.loop-call-init
 loop-call-init g c =
     (ap length c.requires.none, refl, run_none (moment_of g.S.Store.meaning c.args.book.now) _ _ c.requires.none, c.requires.sound, c.requires.tied)
 
-pub push-reserved-requires : goal.push-reserved-requires
-push-reserved-requires g c =
+pub push_reserved-requires : goal.push_reserved-requires
+push_reserved-requires g c =
     omega (arith, c.loop-call.answers.ok.0, c.loop-call.invariant.0, c.loop-call.invariant.1, c.requires.room, c.loop-call-test.true)
 
 pub loop-call-preserved : goal.loop-call-preserved
 loop-call-preserved g c =
     let before = vec_items c.loop-call.answers in (
-      one_more before _ _ c.loop-call.call-index c.loop-call.invariant.0 c.push-reserved.ensures.items,
-      c.push-reserved.ensures.capacity ∙ c.loop-call.invariant.1,
-      run_more g.S.Store.meaning _ c.args.calls.now before _ c.loop-call.book c.make-call-answer.new.book c.make-call-answer.new.slip _ c.make-call-answer.result c.loop-call.call-index c.loop-call.invariant.0 c.loop-call-test.true c.push-reserved.ensures.items c.loop-call.invariant.2 c.make-call-answer.ensures,
-      c.make-call-answer.ensures.performs.sound,
-      c.make-call-answer.ensures.tied,
+      one_more before _ _ c.loop-call.call-index c.loop-call.invariant.0 c.push_reserved.ensures.items,
+      c.push_reserved.ensures.capacity ∙ c.loop-call.invariant.1,
+      run_more g.S.Store.meaning _ c.args.calls.now before _ c.loop-call.book c.make_call-answer.new.book c.make_call-answer.new.slip _ c.make_call-answer.result c.loop-call.call-index c.loop-call.invariant.0 c.loop-call-test.true c.push_reserved.ensures.items c.loop-call.invariant.2 c.make_call-answer.ensures,
+      c.make_call-answer.ensures.performs.sound,
+      c.make_call-answer.ensures.tied,
     )
 
 pub returns : goal.returns

@@ -2,8 +2,8 @@ use Rattle.std.proofs.Common.{refl}
 use Rattle.runs.proofs.Working.{finished, opened_tied, unopened}
 use Rattle.runs.proofs.work.work_on.Goals as goal
 
-pub make-calls-requires : goal.make-calls-requires
-make-calls-requires g c = record {
+pub make_calls-requires : goal.make_calls-requires
+make_calls-requires g c = record {
   sound = c.in-Ok.ensures.performs.sound;
   tied = opened_tied g.S.Store.meaning c.args.book c.open.new.self c.spent-slip.result c.requires.new c.spent-slip.ensures c.in-Ok.ensures.performs;
   none = c.requires.none;
@@ -12,12 +12,12 @@ make-calls-requires g c = record {
 
 pub returns-in-Ok : goal.returns-in-Ok
 returns-in-Ok g c = record {
-  worked = finished g.S.Store.meaning c.args.book c.open.new.self _ c.args.calls.now _ _ c.requires.new c.in-Ok.ensures.performs c.make-calls.ensures;
+  worked = finished g.S.Store.meaning c.args.book c.open.new.self _ c.args.calls.now _ _ c.requires.new c.in-Ok.ensures.performs c.make_calls.ensures;
   remembers = refl;
 }
 
 pub returns-in-Err : goal.returns-in-Err
 returns-in-Err g c = record {
-  worked = unopened g.S.Store.meaning c.args.book c.open.new.self c.in-Err.fault _ c.requires.new c.in-Err.ensures.performs c.into-parts-store.ensures;
+  worked = unopened g.S.Store.meaning c.args.book c.open.new.self c.in-Err.fault _ c.requires.new c.in-Err.ensures.performs c.into_parts-store.ensures;
   remembers = refl;
 }
