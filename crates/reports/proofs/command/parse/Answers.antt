@@ -9,17 +9,17 @@ pub returns-then-count-eq1 : goal.returns-then-count-eq1
 returns-then-count-eq1 c =
     let xs = c.args.words.now in
     let e = one string_bytes xs c.index-words-0.result (omega arith) c.index-words-0.is in
-    let a = c.as-str.ensures.value in
+    let a = c.as_str.ensures.value in
     subst (λ ws. Parsed ws c.alone.result) (ap (λ s. s ∷ []) a ∙ e) c.alone.ensures
 
 pub returns-then-count-eq2 : goal.returns-then-count-eq2
 returns-then-count-eq2 c =
     let xs = c.args.words.now in
     let e = two string_bytes xs c.index-words-0-then-count-eq2.result c.index-words-1.result (omega arith) c.index-words-0-then-count-eq2.is c.index-words-1.is in
-    let a = c.as-str-then-count-eq2.ensures.value in
-    let b = c.as-str-then-count-eq2-2.ensures.value in
-    let z : c.as-str-then-count-eq2.result.now ∷ (c.as-str-then-count-eq2-2.result.now ∷ []) ≡ map string_bytes xs = cc in
-    subst (λ ws. Parsed ws c.of-file.result) z c.of-file.ensures
+    let a = c.as_str-then-count-eq2.ensures.value in
+    let b = c.as_str-then-count-eq2-2.ensures.value in
+    let z : c.as_str-then-count-eq2.result.now ∷ (c.as_str-then-count-eq2-2.result.now ∷ []) ≡ map string_bytes xs = cc in
+    subst (λ ws. Parsed ws c.of_file.result) z c.of_file.ensures
 
 pub returns-then-count-eq4 : goal.returns-then-count-eq4
 returns-then-count-eq4 c =
@@ -27,12 +27,12 @@ returns-then-count-eq4 c =
     let e =
     four string_bytes xs c.index-words-0-then-count-eq4.result c.index-words-1-then-count-eq4.result c.index-words-2.result c.index-words-3.result
     (omega arith) c.index-words-0-then-count-eq4.is c.index-words-1-then-count-eq4.is c.index-words-2.is c.index-words-3.is in
-    let p = c.as-str-then-count-eq4.ensures.value in
-    let q = c.as-str-then-count-eq4-2.ensures.value in
-    let r = c.as-str-then-count-eq4-3.ensures.value in
-    let s = c.as-str-then-count-eq4-4.ensures.value in
-    let z : c.as-str-then-count-eq4.result.now ∷ (c.as-str-then-count-eq4-2.result.now ∷ (c.as-str-then-count-eq4-3.result.now ∷ (c.as-str-then-count-eq4-4.result.now ∷ []))) ≡ map string_bytes xs = cc in
-    subst (λ ws. Parsed ws c.of-two.result) z c.of-two.ensures
+    let p = c.as_str-then-count-eq4.ensures.value in
+    let q = c.as_str-then-count-eq4-2.ensures.value in
+    let r = c.as_str-then-count-eq4-3.ensures.value in
+    let s = c.as_str-then-count-eq4-4.ensures.value in
+    let z : c.as_str-then-count-eq4.result.now ∷ (c.as_str-then-count-eq4-2.result.now ∷ (c.as_str-then-count-eq4-3.result.now ∷ (c.as_str-then-count-eq4-4.result.now ∷ []))) ≡ map string_bytes xs = cc in
+    subst (λ ws. Parsed ws c.of_two.result) z c.of_two.ensures
 
 pub returns-else-count-eq4 : goal.returns-else-count-eq4
 returns-else-count-eq4 c =

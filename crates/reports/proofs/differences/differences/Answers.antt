@@ -8,35 +8,35 @@ use Rattle.reports.proofs.Between.{ListedAs, list_shows, refused_first, refused_
 use Rattle.reports.proofs.differences.differences.Goals.{in-Some, in-None}
 use Rattle.reports.proofs.differences.differences.Goals as goal
 
-pub returns-in-err-earlier : goal.returns-in-err-earlier
-returns-in-err-earlier g c =
-    let p = err_from_is_err_and c.from-residual.result c.from-residual.ensures.1 in
-    let z : c.from-residual.result ≡ Err (Refused c.in-err-earlier.field-0.0) = cc in
+pub returns-in_err-earlier : goal.returns-in_err-earlier
+returns-in_err-earlier g c =
+    let p = err_from_is_err_and c.from_residual.result c.from_residual.ensures.1 in
+    let z : c.from_residual.result ≡ Err (Refused c.in_err-earlier.field-0.0) = cc in
     let m = moment_of g.S.Store.meaning c.args.book.now in
-    subst (Differs m c.args.j c.args.k) (sym z) (refused_first m c.args.j c.args.k _ (sym c.in-err-earlier.ensures))
+    subst (Differs m c.args.j c.args.k) (sym z) (refused_first m c.args.j c.args.k _ (sym c.in_err-earlier.ensures))
 
-pub returns-in-err-later : goal.returns-in-err-later
-returns-in-err-later g c =
-    let p = err_from_is_err_and c.from-residual-in-err-later.result c.from-residual-in-err-later.ensures.1 in
-    let z : c.from-residual-in-err-later.result ≡ Err (Refused c.in-err-later.field-0.0) = cc in
+pub returns-in_err-later : goal.returns-in_err-later
+returns-in_err-later g c =
+    let p = err_from_is_err_and c.from_residual-in_err-later.result c.from_residual-in_err-later.ensures.1 in
+    let z : c.from_residual-in_err-later.result ≡ Err (Refused c.in_err-later.field-0.0) = cc in
     let m = moment_of g.S.Store.meaning c.args.book.now in
-    let a = list_shows m c.args.j _ (sym c.in-ok-earlier.ensures) in
-    subst (Differs m c.args.j c.args.k) (sym z) (refused_second m c.args.j c.args.k _ _ a (sym c.in-err-later.ensures))
+    let a = list_shows m c.args.j _ (sym c.in_ok-earlier.ensures) in
+    subst (Differs m c.args.j c.args.k) (sym z) (refused_second m c.args.j c.args.k _ _ a (sym c.in_err-later.ensures))
 
 pub loop-n-init : goal.loop-n-init
 loop-n-init g c =
     let m = moment_of g.S.Store.meaning c.args.book.now in
-    let e = c.in-ok-all.ensures in
+    let e = c.in_ok-all.ensures in
     (omega (arith, e.len), e.capacity, ap (λ t. pairs_of t ++ behind m c.args.j c.args.k c.max-count.result 0) e.items)
 
-pub returns-in-err-difference : goal.returns-in-err-difference
-returns-in-err-difference g c =
+pub returns-in_err-difference : goal.returns-in_err-difference
+returns-in_err-difference g c =
     let m = moment_of g.S.Store.meaning c.args.book.now in
     let j = c.args.j in
     let k = c.args.k in
-    let a = list_shows m j _ (sym c.in-ok-earlier.ensures) in
-    let b = list_shows m k _ (sym c.in-ok-later.ensures) in
-    never_answer (c.in-err-difference.ensures ∙ differ_shows m j k c.loop-n.n _ _ a b)
+    let a = list_shows m j _ (sym c.in_ok-earlier.ensures) in
+    let b = list_shows m k _ (sym c.in_ok-later.ensures) in
+    never_answer (c.in_err-difference.ensures ∙ differ_shows m j k c.loop-n.n _ _ a b)
 
 pub loop-n-preserved : goal.loop-n-preserved
 loop-n-preserved g c =
@@ -46,17 +46,17 @@ loop-n-preserved g c =
     let count = c.max-count.result in
     let n = c.loop-n.n in
     let cs = vec_items c.loop-n.all in
-    let a = list_shows m j _ (sym c.in-ok-earlier.ensures) in
-    let b = list_shows m k _ (sym c.in-ok-later.ensures) in
-    let e = answered (c.in-ok-difference.ensures ∙ differ_shows m j k n _ _ a b) in
+    let a = list_shows m j _ (sym c.in_ok-earlier.ensures) in
+    let b = list_shows m k _ (sym c.in_ok-later.ensures) in
+    let e = answered (c.in_ok-difference.ensures ∙ differ_shows m j k n _ _ a b) in
     elim c.match-branch-5.branch [
       | in-Some w ↦
           let f = sym e ∙ w.in-Some.is in
           let l = ap vec_len w.all-is in
           let s = ap vec_capacity w.all-is in
-          let v = ap vec_items w.all-is ∙ w.push-reserved.ensures.items in (
-            omega (arith, l, w.push-reserved.ensures.len, c.loop-n.invariant.0),
-            omega (arith, s, w.push-reserved.ensures.capacity, c.loop-n.invariant.1),
+          let v = ap vec_items w.all-is ∙ w.push_reserved.ensures.items in (
+            omega (arith, l, w.push_reserved.ensures.len, c.loop-n.invariant.0),
+            omega (arith, s, w.push_reserved.ensures.capacity, c.loop-n.invariant.1),
             ap (λ t. pairs_of t ++ behind m j k count (n + 1)) v ∙ (sym (one_listed m j k count n cs w.in-Some.difference (omega arith) f) ∙ c.loop-n.invariant.2),
           )
       | in-None w ↦
@@ -78,8 +78,8 @@ returns g c =
     let n = c.loop-n.n in
     let count = c.max-count.result in
     let ps = pairs_of (vec_items c.loop-n.all) in
-    let a = list_shows m j _ (sym c.in-ok-earlier.ensures) in
-    let b = list_shows m k _ (sym c.in-ok-later.ensures) in
+    let a = list_shows m j _ (sym c.in_ok-earlier.ensures) in
+    let b = list_shows m k _ (sym c.in_ok-later.ensures) in
     let z : count - n ≡ 0 = omega arith in
     let e : behind m j k count 0 ≡ ps = sym c.loop-n.invariant.2 ∙ (ap (λ t. ps ++ t) (behind_none m j k count n z) ∙ append-nil ps) in
     all_shown m j k _ _ a b ∙ ap Ok (ap (λ t. behind m j k t 0) (sym c.max-count.ensures) ∙ e)

@@ -7,10 +7,10 @@ pub returns : goal.returns
 returns c =
     let xs = c.args.bytes.now in
     let m = c.min-middle.result in
-    let s = c.saturating-sub-start.result in
+    let s = c.saturating_sub-start.result in
     let q = c.min.result in
     let e = c.min-middle.ensures in
-    let f = c.saturating-sub-start.ensures in
+    let f = c.saturating_sub-start.ensures in
     let b = between_is xs s m in
     let n : (m + q) - m ≡ q = omega arith in
     let z : q ≡ min (length (drop m xs)) 24 = simp length-drop (omega arith) in

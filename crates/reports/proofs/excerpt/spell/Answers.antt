@@ -8,7 +8,7 @@ pub loop-b-preserved : goal.loop-b-preserved
 loop-b-preserved c =
     let xs = c.args.bytes.now in
     let i = c.loop-b.b-index in
-    let more = c.in-ok-spell-one.ensures in
+    let more = c.in_ok-spell_one.ensures in
     let t = take_more xs i 0 (omega arith) in
     let j = flat_map_more spelled (vec_items c.args.text.now) (take i xs) (get_or xs i 0) in
     cc

@@ -3,7 +3,7 @@ use Rattle.std.proofs.lemmas.List.{drop_more, at_drop_all}
 use Rattle.std.specs.List.{flat_map}
 use Rattle.reports.specs.Runs.{run, runs_from, runs_of, numbers_in}
 use Rattle.reports.proofs.Listed.{none, first_run, longer, next_run, runs_whole}
-use Rattle.reports.proofs.runs.runs.Goals.{then-follows, else-follows+in-ok-push}
+use Rattle.reports.proofs.runs.runs.Goals.{then-follows, else-follows+in_ok-push}
 use Rattle.reports.proofs.runs.runs.Goals as goal
 
 pub loop-i-init : goal.loop-i-init
@@ -24,10 +24,10 @@ loop-i-preserved c =
           let l = longer all a b n (drop (i + 1) xs) h in
           let v : vec_items c.if-follows.all ≡ all = cc in
           let z : vec_items c.if-follows.all ++ runs_from c.if-follows.first c.if-follows.last (drop (i + 1) xs) ≡ runs_of xs = cc in z
-      | else-follows+in-ok-push w ↦
+      | else-follows+in_ok-push w ↦
           let h : eqb n (b + 1) ≡ false = cc in
           let l = next_run all a b n (drop (i + 1) xs) h in
-          let p = w.in-ok-push.ensures.items in
+          let p = w.in_ok-push.ensures.items in
           let v : vec_items c.if-follows.all ≡ all ++ (run a b ∷ []) = cc in
           let z : vec_items c.if-follows.all ++ runs_from c.if-follows.first c.if-follows.last (drop (i + 1) xs) ≡ runs_of xs = cc in z
     ]
@@ -43,5 +43,5 @@ returns c =
     let xs = c.args.numbers.now in
     let all = vec_items c.loop-i.all in
     let e = at_drop_all (λ t. all ++ runs_from c.loop-i.first c.loop-i.last t) xs c.loop-i.i (omega arith) in
-    let z : vec_items c.push-2.new.self ≡ runs_of xs = c.in-ok-push-2.ensures.items ∙ (sym e ∙ c.loop-i.invariant) in
+    let z : vec_items c.push-2.new.self ≡ runs_of xs = c.in_ok-push-2.ensures.items ∙ (sym e ∙ c.loop-i.invariant) in
     record { runs = z; whole = ap (flat_map numbers_in) z ∙ runs_whole xs }
