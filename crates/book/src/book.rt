@@ -1,7 +1,7 @@
 // The book.
 use crate::call::Phase;
-use records::scratch::Scratch;
 use records::revision_tables::Tables;
+use records::scratch::Scratch;
 use stores::store::Store;
 use writer::held::Held;
 use writer::update::Writer;

@@ -5,8 +5,8 @@ ghost use Rattle.book.specs.Books.{Sound, moment_of, store_in};
 
 use super::{Book, Memory};
 use crate::call::Phase;
-use records::scratch::Scratch;
 use records::revision_tables::Tables;
+use records::scratch::Scratch;
 use std::alloc::{AllocError, Global};
 use stores::store::Store;
 use writer::held::Held;
