@@ -1,5 +1,5 @@
 -- An update that is laid down as bytes, checked, written behind the file and read back.
-use Rattle.std.proofs.Common.{◌≡◌, ℕ, ◌+◌, ◌<◌, ◌≤◌, true, false, List, [], ◌∷◌, ◌++◌, length, Ok, Err, Result, sym, refl, ap, ◌∙◌, subst, arith, length-append, MatchResult}
+use Rattle.std.proofs.Common.{◌≡◌, ℕ, ◌+◌, ◌<◌, ◌≤◌, false, List, [], ◌∷◌, ◌++◌, length, Ok, Err, Result, sym, refl, ap, ◌∙◌, subst, arith, length-append}
 use Rattle.faults.specs.declared.fault.Fault.{Fault}
 use Rattle.stores.specs.Meanings.{Meaning, Joined, Appends}
 use Rattle.chains.proofs.Added.{limits_parts}
@@ -8,16 +8,14 @@ use Rattle.chains.proofs.Steps.{never_answer, never_reading, answered}
 use Rattle.entries.specs.declared.cell.Cell.{Cell}
 use Rattle.entries.specs.declared.revision.Revision as code
 use Rattle.entries.specs.Tables.{TablesOf}
-use Rattle.format.specs.Acceptable.{Acceptable}
-use Rattle.format.specs.Book.{Moment, Call, commit, standing, updating, blank, newest_or, newest, addition, decide_commit, Step, decide, history}
-use Rattle.format.specs.Bytes.{Bytes, ok, bad}
+use Rattle.format.specs.Book.{Moment, Call, commit, standing, updating, blank, newest_or, newest, addition, decide_commit, Step}
+use Rattle.format.specs.Bytes.{Bytes, bad}
 use Rattle.format.specs.Chain.{Answer, also, section_in}
 use Rattle.format.specs.Revisions.{Revision, revision, Opened, opens}
-use Rattle.format.specs.Sections.{Section}
 use Rattle.format.specs.Updates.{Update}
 use Rattle.format.specs.Writing.{update_objects, update_section, update_bytes}
 use Rattle.keeping.specs.Committing.{NewestSection, CommitReads, section_at}
-use Rattle.keeping.specs.Standing.{Stands, SoundIn}
+use Rattle.keeping.specs.Standing.{SoundIn}
 use Rattle.keeping.proofs.Commits.{commits_fit, commits_read}
 use Rattle.keeping.proofs.Kept.{tables_grow}
 use Rattle.keeping.proofs.Sound.{sound_stays}
@@ -35,7 +33,7 @@ use Rattle.book.specs.declared.call.Phase.TheVariants.{Standing, Updating}
 use Rattle.book.specs.Books.{update_in, moment_of, revisions_in, cells_in, Sound, Performs}
 use Rattle.book.specs.Calls.{phase_of}
 use Rattle.book.specs.Drafted.{Drafted, Drafts}
-use Rattle.book.proofs.Performed.{performs_at, refused_at, updating_sound, updating_phase}
+use Rattle.book.proofs.Performed.{performs_at, updating_sound, updating_phase}
 use Rattle.book.proofs.Steps.{at, commit_step}
 
 -- the newest section cannot be refused

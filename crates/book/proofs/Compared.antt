@@ -1,5 +1,5 @@
 -- The objects of two revisions, compared by their cells.
-use Rattle.std.proofs.Common.{◌≡◌, ℕ, ◌+◌, ◌-◌, ◌<◌, ◌≤◌, Bool, true, false, ◌&&◌, eqb, leb, List, [], ◌∷◌, length, get_or, take, drop, Some, None, Ok, Err, Option, sym, refl, ap, ◌∙◌, ⊎_elim, arith, length-drop, length-take}
+use Rattle.std.proofs.Common.{◌≡◌, ℕ, ◌+◌, ◌-◌, ◌<◌, ◌≤◌, true, false, ◌&&◌, leb, List, [], ◌∷◌, length, get_or, Some, None, Ok, Err, Option, refl, ap, ◌∙◌, ⊎_elim, arith, length-drop, length-take}
 use Rattle.std.proofs.lemmas.List.{get_or_default}
 use Rattle.std.proofs.lemmas.Bool.{cases_lt, eq-eqb, leb-true}
 use Rattle.faults.specs.declared.fault.Fault.{Fault}
@@ -15,7 +15,7 @@ use Rattle.format.specs.Chain.{Answer, also}
 use Rattle.format.specs.Questions.{ask_history, ask_revision}
 use Rattle.format.specs.Revisions as format
 use Rattle.format.specs.Revisions.{nth, Opened, opens, file_bytes}
-use Rattle.format.specs.Updates.{Shown, shown_of, objects_of}
+use Rattle.format.specs.Updates.{shown_of, objects_of}
 use Rattle.entries.specs.Cells.{part, state_in}
 use Rattle.entries.specs.declared.cell.Cell.{Cell}
 use Rattle.entries.specs.declared.cell.Cell.TheVariants.{Used, Free}
@@ -26,8 +26,8 @@ use Rattle.keeping.specs.Telling.{RowOf, CellAt}
 use Rattle.keeping.proofs.Asked.{fetch_cells}
 use Rattle.keeping.proofs.Told.{tables_tell, cells_tell}
 use Rattle.book.specs.declared.rows.Body.{Body}
-use Rattle.book.specs.Differences.{used, became, difference, ask_differ, Lies, LiesIf, object_in, body_in, same_in}
-use Rattle.book.specs.Rows.{is_free, NotUsed, BodyFound}
+use Rattle.book.specs.Differences.{used, became, difference, ask_differ, LiesIf, body_in}
+use Rattle.book.specs.Rows.{is_free, BodyFound}
 
 -- bytes are the same as themselves, and of other lengths they are not
 pub same_refl : (xs : Bytes) → same xs xs ≡ true

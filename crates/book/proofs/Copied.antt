@@ -1,5 +1,5 @@
 -- Bytes copied part by part.
-use Rattle.std.proofs.Common.{◌≡◌, ℕ, ◌+◌, ◌-◌, ◌<◌, ◌≤◌, min, List, [], ◌∷◌, ◌++◌, length, take, drop, Ok, Err, Result, sym, ap, ◌∙◌, append_assoc, arith, length-drop, length-take, take-take, take-add}
+use Rattle.std.proofs.Common.{◌≡◌, ℕ, ◌+◌, ◌-◌, ◌≤◌, List, ◌++◌, length, take, drop, Ok, Err, Result, sym, ap, ◌∙◌, append_assoc, arith, length-drop, length-take, take-take, take-add}
 use lib.Seq.{take-append-le}
 use Rattle.std.proofs.lemmas.List.{append-nil, drop_all}
 use Rattle.faults.specs.declared.fault.Fault.{Fault}

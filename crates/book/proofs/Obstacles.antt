@@ -1,15 +1,12 @@
 -- Calls that a state does not allow.
-use Rattle.std.proofs.Common.{◌≡◌, ℕ, Bool, true, false, Err, refl, arith}
-use Rattle.faults.specs.declared.fault.Fault.{Fault}
+use Rattle.std.proofs.Common.{◌≡◌, ℕ, Bool, true, false, refl, arith}
 use Rattle.faults.specs.Faults.{refused}
-use Rattle.stores.specs.Meanings.{Meaning}
 use Rattle.format.specs.Book.{decide}
-use Rattle.format.specs.Updates.{Update}
 use Rattle.book.specs.declared.call.Phase.{Phase}
 use Rattle.book.specs.declared.call.Phase.TheVariants.{Shut, Standing, Updating}
 use Rattle.book.specs.declared.call.Call.{Call}
 use Rattle.book.specs.declared.call.Call.TheVariants.{Open, Begin, Put, Remove, Commit, Abandon, Back}
-use Rattle.book.specs.Calls.{phase_of, call_of, number_of, allows, obstacle, Refuses}
+use Rattle.book.specs.Calls.{number_of, allows, obstacle, Refuses}
 
 clash : {P : Type 0} → true ≡ false → P
 clash e = let z : ◌≡◌ {A = ℕ} 0 1 = cc in absurd (omega arith)

@@ -1,13 +1,12 @@
 -- A call that a book makes is a step, and leaves it sound.
-use Rattle.std.proofs.Common.{◌≡◌, ℕ, ◌+◌, ◌≤◌, Bool, true, false, not, List, length, take, is_some, Some, None, Ok, Err, Option, Result, sym, refl, ap, ◌∙◌, subst, arith, length-drop, length-take}
+use Rattle.std.proofs.Common.{◌≡◌, ℕ, ◌+◌, ◌≤◌, true, false, List, length, take, is_some, Some, None, Ok, Err, Option, Result, sym, refl, ap, ◌∙◌, subst, arith, length-drop, length-take}
 use Rattle.std.proofs.lemmas.Bool.{not-true}
 use Rattle.faults.specs.declared.fault.Fault.{Fault}
 use Rattle.faults.specs.declared.reason.Reason.TheVariants.{NoRevision}
 use Rattle.faults.specs.Faults.{refused}
 use Rattle.stores.specs.Meanings.{Meaning, Shortened, Cuts}
 use Rattle.laws.proofs.Held.{putting, removing}
-use Rattle.format.specs.Book as format
-use Rattle.format.specs.Book.{Phase, shut, standing, updating, Moment, Call, back, Step, newest, decide, decide_put, decide_remove, has_room, history, phase_after}
+use Rattle.format.specs.Book.{Phase, standing, updating, Call, back, Step, newest, decide, decide_put, decide_remove, has_room, history, phase_after}
 use Rattle.format.specs.Bytes.{Bytes}
 use Rattle.format.specs.Chain.{Answer}
 use Rattle.format.specs.Revisions.{Revision, find}

@@ -1,5 +1,5 @@
 -- What a book's rows and cells answer to its questions.
-use Rattle.std.proofs.Common.{◌≡◌, ℕ, ◌+◌, ◌-◌, ◌<◌, ◌≤◌, Bool, true, false, leb, List, length, get_or, take, Some, None, Ok, Err, Option, Result, sym, refl, ap, ◌∙◌, ⊎_elim, arith}
+use Rattle.std.proofs.Common.{◌≡◌, ℕ, ◌+◌, ◌-◌, ◌<◌, ◌≤◌, true, false, leb, List, length, get_or, Some, None, Ok, Err, Option, refl, ap, ◌∙◌, ⊎_elim, arith}
 use Rattle.std.proofs.lemmas.List.{get_or_default}
 use Rattle.std.proofs.lemmas.Bool.{cases_lt, le-leb, lt-leb}
 use Rattle.faults.specs.declared.fault.Fault.{Fault}
@@ -10,7 +10,7 @@ use Rattle.format.specs.Book.{Phase, shut, standing, updating, Moment, revision_
 use Rattle.format.specs.Bytes.{Bytes}
 use Rattle.format.specs.Chain.{Answer, also, must}
 use Rattle.format.specs.Revisions as format
-use Rattle.format.specs.Questions.{is_shut, ask_history, ask_revision, ask_count, ask_list, ask_fetch, ask_draw}
+use Rattle.format.specs.Questions.{is_shut, ask_history, ask_revision, ask_list, ask_fetch, ask_draw}
 use Rattle.entries.specs.Cells.{part}
 use Rattle.entries.specs.declared.cell.Cell.{Cell}
 use Rattle.entries.specs.declared.cell.Cell.TheVariants.{Used, Free}

@@ -1,5 +1,5 @@
 -- One call from one moment to the next, for each way a call can go.
-use Rattle.std.proofs.Common.{◌≡◌, ℕ, ◌≤◌, false, [], Ok, Err, sym, refl, ap, ◌∙◌}
+use Rattle.std.proofs.Common.{◌≡◌, ℕ, ◌≤◌, false, [], Ok, Err, sym, refl, ap}
 use Rattle.faults.specs.declared.fault.Fault.{Fault}
 use Rattle.stores.specs.Meanings.{Meaning, Joined}
 use Rattle.format.specs.Bytes.{Bytes}

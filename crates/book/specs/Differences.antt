@@ -1,5 +1,5 @@
 -- What became of an object number between two revisions.
-use Rattle.std.specs.Prelude.{ℕ, ◌≤◌, Bool, true, false, ◌&&◌, List, length, Some, None, Ok, Err, Option, ◌==◌}
+use Rattle.std.specs.Prelude.{ℕ, ◌≤◌, Bool, true, false, ◌&&◌, length, Some, None, Ok, Option, ◌==◌}
 use Rattle.format.specs.Book.{Moment}
 use Rattle.format.specs.Bytes.{Bytes, same}
 use Rattle.format.specs.Chain.{Answer, also}

@@ -1,5 +1,5 @@
 -- An open file with its tables keeps the bounds.
-use Rattle.std.proofs.Common.{◌≡◌, ℕ, ◌≤◌, List, length, Some, None, sym, ap, subst, arith}
+use Rattle.std.proofs.Common.{ℕ, ◌≤◌, length, Some, None, ap, subst, arith}
 use Rattle.format.specs.Book.{blank}
 use Rattle.format.specs.Revisions as format
 use Rattle.format.specs.Revisions.{State, used, free, nth}

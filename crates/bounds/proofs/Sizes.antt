@@ -1,8 +1,8 @@
 -- Sizes stay within 1000, since every listed number is at most 999.
-use Rattle.std.proofs.Common.{◌≡◌, ℕ, suc, ◌≤◌, max, Bool, true, false, ◌&&◌, leb, List, [], ◌∷◌, map, reverse, length, Ok, sym, ap, subst, arith}
+use Rattle.std.proofs.Common.{◌≡◌, ℕ, suc, ◌≤◌, max, Bool, true, false, leb, List, [], ◌∷◌, map, reverse, length, Ok, sym, ap, subst, arith}
 use mathlib.Core.List.{reverse_aux}
 use Rattle.std.proofs.lemmas.Bool.{and_parts, leb-true}
-use Rattle.format.specs.Book.{blank, newest_or}
+use Rattle.format.specs.Book.{newest_or}
 use Rattle.format.specs.Bytes.{Bytes}
 use Rattle.format.specs.Chain.{in_bound, Link}
 use Rattle.format.specs.Revisions as format

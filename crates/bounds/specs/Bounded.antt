@@ -1,5 +1,5 @@
 -- The bounds that the numbers of an open file and of its tables keep.
-use Rattle.std.specs.Prelude.{◌≡◌, ℕ, ◌<◌, ◌≤◌, List, length}
+use Rattle.std.specs.Prelude.{◌≡◌, ◌<◌, ◌≤◌, List, length}
 use Rattle.format.specs.Book.{history, newest, most_size}
 use Rattle.format.specs.Bytes.{Bytes}
 use Rattle.format.specs.Revisions.{file_bytes, most_revisions}

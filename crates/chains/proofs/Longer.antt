@@ -4,7 +4,7 @@ use mathlib.Core.List.{reverse-cons}
 use lib.ListN.{length-reverse}
 use lib.Seq.{take-append-le}
 use Rattle.std.proofs.lemmas.Bool.{lt-ltb}
-use Rattle.format.specs.Book.{history, newest, blank}
+use Rattle.format.specs.Book.{newest, blank}
 use Rattle.format.specs.Bytes.{Bytes, ok}
 use Rattle.format.specs.Chain.{Link, section_in, below, before}
 use Rattle.format.specs.Revisions.{Revision, revision, revisions, most_revisions, Opened, opens}

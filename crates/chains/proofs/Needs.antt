@@ -1,5 +1,5 @@
 -- What the theorems on chains take from the readers, supplied.
-use Rattle.chains.specs.Needed.{Needed, SectionLocal, TailFound}
+use Rattle.chains.specs.Needed.{Needed}
 use Rattle.sections.proofs.Trailers.{trailers_local}
 use Rattle.sections.proofs.SectionLocal.{section_taken, read_found}
 

@@ -1,5 +1,5 @@
 -- The updates that the rules accept on a revision, said of the whole update and not call by call.
-use Rattle.std.specs.Prelude.{◌≡◌, ℕ, suc, ◌<◌, ◌≤◌, true, false, List, [], ◌∷◌, length, None, ◌≢◌}
+use Rattle.std.specs.Prelude.{◌≡◌, ℕ, suc, ◌<◌, ◌≤◌, true, false, [], ◌∷◌, length, None, ◌≢◌}
 use Rattle.format.specs.Book.{is_used, is_worn_out, most_changes, most_body_bytes}
 use Rattle.format.specs.Frames.{body_fault}
 use Rattle.format.specs.Revisions.{Revision, nth}

@@ -1,5 +1,5 @@
 -- The plain account of a book: what its reader knows from the calls and from whether each was accepted, and from nothing else.
-use Rattle.std.specs.Prelude.{ℕ, ◌+◌, ◌-◌, Bool, true, false, List, [], ◌∷◌, ◌++◌, length, take, is_ok, Some, None, nat_le, nat_lt}
+use Rattle.std.specs.Prelude.{ℕ, ◌+◌, ◌-◌, true, false, List, [], ◌∷◌, ◌++◌, length, take, is_ok, Some, None, nat_le, nat_lt}
 use Rattle.format.specs.Bytes.{Bytes}
 use Rattle.format.specs.Book.{Call, open_file, begin, put, remove, commit, abandon, back, history, revision_at, end_of_revision, addition}
 use Rattle.format.specs.Chain.{Answer}

@@ -1,7 +1,6 @@
 -- The book over a store: its states, its calls, and what each call decides and leaves.
-use Rattle.std.specs.Prelude.{◌≡◌, ℕ, zero, suc, ◌+◌, ◌-◌, ◌≤◌, Bool, true, false, not, ◌&&◌, ◌||◌, List, [], ◌∷◌, ◌++◌, length, take, is_some, Some, None, Ok, Err, Option, Result, ◌==◌, nat_le, nat_lt}
+use Rattle.std.specs.Prelude.{◌≡◌, ℕ, zero, suc, ◌+◌, ◌-◌, ◌≤◌, Bool, true, false, not, ◌&&◌, List, [], ◌∷◌, ◌++◌, length, take, is_some, Some, None, Ok, Err, Option, ◌==◌, nat_le, nat_lt}
 use Rattle.faults.specs.declared.fault.Fault.{Fault}
-use Rattle.faults.specs.declared.reason.Reason.{Reason}
 use Rattle.faults.specs.declared.reason.Reason.TheVariants.{BookShut, OpenAlready, UpdateOpen, NoUpdate, SlipSpent, NoRevision, NotInUse, CannotPut, RootNumber, ChangedAlready, UpdateFull, NoChanges, PastLimits, NoSpace}
 use Rattle.faults.specs.Faults.{refused, of_object}
 use Rattle.stores.specs.Meanings.{Meaning}
@@ -10,7 +9,7 @@ use Rattle.format.specs.Chain.{Answer, also, must, window_bytes}
 use Rattle.format.specs.Frames.{body_fault}
 use Rattle.format.specs.Objects.{no_entries}
 use Rattle.format.specs.Revisions.{State, used, free, Revision, find, nth, Opened, opens, file_bytes, most_revisions}
-use Rattle.format.specs.Updates.{Change, body, removed, Update, with_change, body_bytes, new_numbers}
+use Rattle.format.specs.Updates.{body, removed, Update, with_change, body_bytes}
 use Rattle.format.specs.Writing.{new_size, update_section, update_bytes}
 
 -- A book is put round a store. It is shut until it has opened the store's bytes; then it stands; and it holds an update from begin to commit or abandon.

@@ -1,5 +1,5 @@
 -- Streams, an object in the file, and a body that is put (ISO 32000-1, 7.3.8 and 7.3.10).
-use Rattle.std.specs.Prelude.{ℕ, suc, ◌+◌, ◌-◌, ◌*◌, Bool, true, false, ◌&&◌, ◌||◌, [], ◌∷◌, length, drop, ℤ, pos, negsuc, Some, None, codes, Option, ◌==◌, nat_le}
+use Rattle.std.specs.Prelude.{ℕ, suc, ◌+◌, Bool, true, false, ◌||◌, [], ◌∷◌, length, drop, pos, negsuc, Some, None, codes, Option, ◌==◌, nat_le}
 use Rattle.faults.specs.declared.fault.Fault.{Fault}
 use Rattle.faults.specs.declared.reason.Reason.TheVariants.{BytesEnd, BadFrame, OutsideBody}
 use Rattle.format.specs.Bytes.{Bytes, Got, ok, bad, then, end_of, up_to, is_regular, is_white}

@@ -1,6 +1,5 @@
 -- What every run of calls keeps: the law over whole runs of a book, over any store.
 use Rattle.std.specs.Prelude.{◌≡◌, ℕ, ◌≤◌, List, [], ◌∷◌, length, take, Ok}
-use Rattle.stores.specs.Meanings.{Meaning}
 use Rattle.format.specs.Bytes.{Bytes}
 use Rattle.format.specs.Book.{shut, Moment, open_file, Step, history, end_of_revision}
 use Rattle.format.specs.Revisions.{Opened, opens}

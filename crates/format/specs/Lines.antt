@@ -1,5 +1,5 @@
 -- The lines and entries of a cross-reference section (ISO 32000-1, 7.5.4 and 7.5.5).
-use Rattle.std.specs.Prelude.{ℕ, zero, suc, ◌+◌, ◌-◌, ◌*◌, Bool, true, false, ◌&&◌, ◌||◌, List, [], ◌∷◌, length, codes, ◌==◌, nat_le}
+use Rattle.std.specs.Prelude.{ℕ, zero, suc, ◌+◌, ◌-◌, ◌*◌, Bool, true, false, ◌&&◌, ◌||◌, [], ◌∷◌, length, ◌==◌, nat_le}
 use Rattle.faults.specs.declared.reason.Reason.TheVariants.{BytesEnd, BadLine}
 use Rattle.format.specs.Bytes.{Bytes, Got, ok, bad, end_of, is_digit, span, value}
 use Rattle.format.specs.Failures.{section_fault}

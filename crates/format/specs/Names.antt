@@ -1,5 +1,5 @@
 -- Names (ISO 32000-1, 7.3.5).
-use Rattle.std.specs.Prelude.{ℕ, suc, ◌+◌, ◌-◌, ◌*◌, Bool, true, false, ◌&&◌, [], ◌∷◌, Some, None, Option, ◌==◌, nat_le}
+use Rattle.std.specs.Prelude.{ℕ, suc, ◌+◌, ◌-◌, ◌*◌, true, false, ◌&&◌, [], ◌∷◌, Some, None, Option, ◌==◌, nat_le}
 use Rattle.format.specs.Bytes.{Bytes, is_digit}
 
 unfoldable pub hex_digit : ℕ → Option ℕ

@@ -1,5 +1,5 @@
 -- Objects as trees, and how they are read (ISO 32000-1, 7.3.2 to 7.3.10).
-use Rattle.std.specs.Prelude.{ℕ, zero, suc, Bool, true, false, ◌&&◌, ◌||◌, [], ◌∷◌, ℤ, pos, negsuc, Some, None, codes, Option, nat_le}
+use Rattle.std.specs.Prelude.{ℕ, zero, suc, Bool, true, false, ◌&&◌, ◌||◌, ℤ, pos, negsuc, Some, None, codes, Option, nat_le}
 use Rattle.faults.specs.declared.fault.Fault.{Fault}
 use Rattle.faults.specs.declared.reason.Reason.TheVariants.{BytesEnd, BadToken, TooDeep, KeyAgain}
 use Rattle.format.specs.Bytes.{Bytes, Got, ok, bad, then, up_to, same}

@@ -1,14 +1,12 @@
 -- The questions to a book: they show committed revisions and change nothing.
 use Rattle.std.specs.Prelude.{ℕ, suc, Bool, true, false, List, [], ◌∷◌, ◌++◌, length, take, drop, Some, None, Ok, Err, Option, nat_le}
-use Rattle.faults.specs.declared.fault.Fault.{Fault}
 use Rattle.faults.specs.declared.reason.Reason.TheVariants.{BookShut, NoRevision, NotInUse, ShortBuffer, NoSpace}
 use Rattle.faults.specs.Faults.{refused}
-use Rattle.stores.specs.Meanings.{Meaning}
 use Rattle.format.specs.Bytes.{Bytes}
 use Rattle.format.specs.Book.{Phase, shut, standing, updating, Moment, history, revision_at}
 use Rattle.format.specs.Chain.{Answer, also, must}
 use Rattle.format.specs.Revisions.{Revision, nth}
-use Rattle.format.specs.Updates.{Shown, in_use, vacant, Objects, objects_of}
+use Rattle.format.specs.Updates.{Shown, in_use, vacant, objects_of}
 
 unfoldable pub is_shut : Phase → Bool
 is_shut shut = true

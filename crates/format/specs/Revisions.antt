@@ -1,6 +1,5 @@
 -- The tables and objects of the revisions, and opening a file (ISO 32000-1, 7.5.2 to 7.5.6).
-use Rattle.std.specs.Prelude.{ℕ, zero, suc, ◌-◌, min, max, Bool, true, false, ◌&&◌, List, [], ◌∷◌, length, take, drop, ℤ, pos, negsuc, Some, None, Ok, Err, codes, Option, Result, ◌==◌, nat_eq, nat_le, nat_lt}
-use Rattle.faults.specs.declared.fault.Fault.{Fault}
+use Rattle.std.specs.Prelude.{ℕ, zero, suc, ◌-◌, min, max, Bool, true, false, ◌&&◌, List, [], ◌∷◌, length, take, drop, ℤ, pos, negsuc, Some, None, Ok, Err, codes, Option, ◌==◌, nat_eq, nat_le, nat_lt}
 use Rattle.faults.specs.declared.reason.Reason.TheVariants.{NoHeader, NoTail, ChainRule, FileBound}
 use Rattle.faults.specs.Faults.{of_object}
 use Rattle.format.specs.Bytes.{Bytes, Got, ok, bad}
@@ -9,7 +8,7 @@ use Rattle.format.specs.Frames.{Framed, frame, behind}
 use Rattle.format.specs.Lines.{Slot}
 use Rattle.format.specs.Objects.{Entries}
 use Rattle.format.specs.Sections.{Sub, Listed, listed, last_offset}
-use Rattle.format.specs.Chain.{Answer, also, must, window_bytes, Told, Link, walk}
+use Rattle.format.specs.Chain.{Answer, also, must, window_bytes, Link, walk}
 
 -- what a revision's table has for a number: in use, with the body; or free, with the next free number
 pub data State : Type 0 where

@@ -1,15 +1,15 @@
 -- A cross-reference section with its trailer and tail (ISO 32000-1, 7.5.4 and 7.5.5).
-use Rattle.std.specs.Prelude.{ℕ, zero, suc, ◌+◌, Bool, true, false, ◌&&◌, ◌||◌, List, [], ◌∷◌, ◌++◌, reverse, length, Some, None, codes, Option, ◌==◌, nat_le}
+use Rattle.std.specs.Prelude.{ℕ, zero, suc, ◌+◌, Bool, true, false, ◌&&◌, List, [], ◌∷◌, ◌++◌, reverse, Some, None, codes, Option, ◌==◌, nat_le}
 use Rattle.faults.specs.declared.fault.Fault.{Fault}
 use Rattle.faults.specs.declared.reason.Reason.TheVariants.{BytesEnd, BadToken, BadLine}
 use Rattle.format.specs.Bytes.{Bytes, Got, ok, bad, then, is_digit, span, value}
 use Rattle.format.specs.Failures.{object_fault, section_fault}
 use Rattle.format.specs.Space.{skip}
 use Rattle.format.specs.Strings.{turns}
-use Rattle.format.specs.Tokens.{Mark, open_array, close_array, open_dict, close_dict, Kind, int, real, name, text, hex, mark, word, ended, flawed, flaw_fault, Token, token_at}
+use Rattle.format.specs.Tokens.{open_array, close_array, open_dict, close_dict, Kind, int, real, name, text, hex, mark, word, ended, flawed, flaw_fault, Token, token_at}
 use Rattle.format.specs.Objects.{Entries, no_entries, entries, object_by}
 use Rattle.format.specs.Frames.{behind}
-use Rattle.format.specs.Lines.{Slot, placed, exact, exact_line, is_empty, slot, sub_line, number_line}
+use Rattle.format.specs.Lines.{Slot, placed, exact, exact_line, slot, sub_line, number_line}
 
 -- what a section lists: numbers with their entries
 abbrev pub Listed : Type 0

@@ -1,12 +1,10 @@
 -- Answers in plain numbers, as the worked examples state them.
-use Rattle.std.specs.Prelude.{ℕ, suc, ◌+◌, ◌-◌, Bool, true, false, List, [], ◌∷◌, length, Some, None, Ok, Err, Option}
+use Rattle.std.specs.Prelude.{ℕ, suc, ◌-◌, List, [], ◌∷◌, length, Some, None, Ok, Err, Option}
 use Rattle.faults.specs.declared.fault.Fault.{Fault}
 use Rattle.faults.specs.Layers.{layer_number}
 use Rattle.faults.specs.Rules.{rule_of}
-use Rattle.stores.specs.Meanings.{Meaning}
-use Rattle.format.specs.Account.{Event}
-use Rattle.format.specs.Book.{Phase, Moment, Call, decide, phase_after, bytes_after, history}
-use Rattle.format.specs.Bytes.{Bytes, Got, ok, bad}
+use Rattle.format.specs.Book.{Moment, Call, decide, phase_after, bytes_after}
+use Rattle.format.specs.Bytes.{Got, ok, bad}
 use Rattle.format.specs.Chain.{Answer}
 use Rattle.format.specs.Objects.{Obj, null, boolean, integer, decimal, literal, hexadecimal, named, array, dict, ref, Objs, no_objs, more_objs}
 use Rattle.format.specs.Revisions.{Opened, Revision}

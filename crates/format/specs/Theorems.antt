@@ -1,5 +1,5 @@
 -- What the law over whole runs stands on, in the words of files, revisions and updates.
-use Rattle.std.specs.Prelude.{◌≡◌, ℕ, zero, suc, ◌+◌, ◌≤◌, Bool, true, false, List, [], ◌∷◌, ◌++◌, length, take, drop, Some, None, Ok, Option}
+use Rattle.std.specs.Prelude.{◌≡◌, ℕ, suc, ◌+◌, ◌≤◌, true, false, List, [], ◌∷◌, ◌++◌, length, take, Some, None, Ok, Option}
 use Rattle.format.specs.Acceptable.{Acceptable}
 use Rattle.format.specs.Book.{is_used, newest, addition, within_limits, end_of_revision}
 use Rattle.format.specs.Bytes.{Bytes, Got, ok, bad}

@@ -1,5 +1,5 @@
 -- Small truths that a wrong definition would break.
-use Rattle.std.specs.Prelude.{◌≡◌, ℕ, true, false, List, [], ◌∷◌, ◌++◌, replicate, Some, None, codes, Option}
+use Rattle.std.specs.Prelude.{◌≡◌, true, false, List, [], ◌∷◌, ◌++◌, replicate, Some, None, codes, Option}
 use Rattle.faults.specs.declared.fault.Fault.{Fault}
 use Rattle.format.specs.Book.{Call, open_file, begin, put, remove, commit, abandon, back}
 use Rattle.format.specs.Frames.{body_fault, frame}

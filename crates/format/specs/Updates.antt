@@ -1,5 +1,5 @@
 -- Updates, the objects that a revision shows, and what an update leaves of them.
-use Rattle.std.specs.Prelude.{ℕ, suc, ◌+◌, Bool, true, false, List, [], ◌∷◌, ◌++◌, map, length, set, Some, None, Option, ◌==◌, nat_le, nat_lt, slice_set}
+use Rattle.std.specs.Prelude.{ℕ, suc, ◌+◌, true, false, List, [], ◌∷◌, ◌++◌, length, Some, None, Option, ◌==◌, nat_le, nat_lt, slice_set}
 use Rattle.format.specs.Bytes.{Bytes}
 use Rattle.format.specs.Revisions.{State, used, free, Revision, nth}
 

@@ -8,7 +8,7 @@ use Rattle.locality.proofs.Dictionaries.{key_bytes_at, value_bytes_at, behind_ke
 use Rattle.grammar.specs.Lexing.{Lexeme, Lexes}
 use Rattle.grammar.specs.Trees.{bytes_of, Refers, Absent, Spells, Items, Pairs, Ahead}
 use Rattle.grammar.proofs.Keys.{Apart, apart_more, apart_none}
-use Rattle.grammar.proofs.References.{behind, ref_found, refers_at, ref_none}
+use Rattle.grammar.proofs.References.{ref_found, refers_at, ref_none}
 use Rattle.grammar.proofs.Sequences.{Head, head, lexes_split, lexes_shorter, lexes_none, ahead_more, single, value_bytes}
 use Rattle.grammar.proofs.Sound.{object_skips}
 

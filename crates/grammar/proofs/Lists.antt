@@ -1,5 +1,5 @@
 -- Tests that every byte passes.
-use Rattle.std.proofs.Common.{◌≡◌, ℕ, suc, ◌+◌, Bool, true, false, not, eqb, [], ◌∷◌, ◌++◌, length, refl, arith, eqb-true}
+use Rattle.std.proofs.Common.{◌≡◌, ℕ, suc, ◌+◌, Bool, true, false, eqb, [], ◌∷◌, ◌++◌, length, refl, arith, eqb-true}
 use Rattle.format.specs.Bytes.{Bytes, every, span}
 use Rattle.locality.specs.Locality.{stops}
 use Rattle.locality.proofs.Cases.{cases, not_both}

@@ -8,7 +8,7 @@ use Rattle.locality.specs.Locality.{Good}
 use Rattle.locality.proofs.Local.{up_to_taken}
 use Rattle.locality.proofs.Spaces.{skip_tight, tight_stays}
 use Rattle.grammar.specs.Lexing.{Lexeme, lexeme, Lexes}
-use Rattle.grammar.specs.Reading.{token, lexeme_of}
+use Rattle.grammar.specs.Reading.{lexeme_of}
 use Rattle.grammar.specs.Trees.{with_leads, bytes_of, Ahead}
 use Rattle.grammar.proofs.Lexing.{good_met, spelled_good, read_next, next_lexes, first_some}
 use Rattle.grammar.proofs.Tokens.{spelled_first, gap_stays, token_read}

@@ -1,7 +1,6 @@
 -- Rows over files whose first bytes are the same, and over cells whose first ones are.
 use Rattle.std.proofs.Common.{◌≡◌, ℕ, zero, suc, ◌+◌, ◌-◌, ◌<◌, ◌≤◌, List, [], ◌∷◌, ◌++◌, map, length, get_or, take, sym, refl, ap, ◌∙◌, subst, arith}
 use Rattle.format.specs.Bytes.{Bytes}
-use Rattle.format.specs.Revisions as format
 use Rattle.format.specs.Revisions.{State, used}
 use Rattle.format.specs.Objects.{no_entries}
 use Rattle.entries.specs.declared.cell.Cell.{Cell}

@@ -3,7 +3,7 @@ use Rattle.std.proofs.Common.{ℕ, List, take, is_some, Ok, ap, ◌∙◌}
 use Rattle.faults.specs.declared.reason.Reason.TheVariants.{NoRevision}
 use Rattle.faults.specs.Faults.{refused}
 use Rattle.stores.specs.Meanings.{Meaning}
-use Rattle.format.specs.Book.{back, history, revision_at, end_of_revision, decide, bytes_after}
+use Rattle.format.specs.Book.{revision_at, end_of_revision, decide, bytes_after}
 use Rattle.format.specs.Chain.{Answer, must}
 use Rattle.chains.proofs.Openings.{history_opened}
 use Rattle.entries.specs.declared.cell.Cell.{Cell}

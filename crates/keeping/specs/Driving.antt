@@ -1,5 +1,5 @@
 -- Runs of a book for whoever makes its calls one after the other.
-use Rattle.std.specs.Prelude.{◌≡◌, ℕ, ◌+◌, ◌<◌, Bool, true, false, List, [], ◌∷◌, ◌++◌, length, Ok, slice_index_or}
+use Rattle.std.specs.Prelude.{◌≡◌, ℕ, ◌<◌, Bool, true, false, List, [], ◌∷◌, ◌++◌, length, Ok, slice_index_or}
 use Rattle.format.specs.Account.{Event, after_event}
 use Rattle.format.specs.Book.{Phase, shut, standing, updating, Moment, Call, open_file, put, remove, commit, abandon, Step}
 use Rattle.format.specs.Bytes.{Bytes}

@@ -1,10 +1,10 @@
 -- The example, by computation.
-use Rattle.std.proofs.Common.{◌≡◌, [], ◌∷◌, codes, refl, lit≤}
+use Rattle.std.proofs.Common.{[], ◌∷◌, codes, refl, lit≤}
 use Rattle.format.proofs.Computed.{computes}
-use Rattle.format.specs.Book.{standing, updating, Moment, Call, begin, put, remove, commit, back, Step, Done}
+use Rattle.format.specs.Book.{standing, updating}
 use Rattle.format.specs.Updates.{body, removed}
 use Rattle.format.specs.Worked.{worked_file, file2, file3, file4}
-use Rattle.laws.specs.WorkedRun.{WorkedRun, worked_calls, gates, at}
+use Rattle.laws.specs.WorkedRun.{WorkedRun, gates, at}
 
 pub worked_run : WorkedRun
 unfolding computes

@@ -1,11 +1,10 @@
 -- Accepted puts and removes keep the open update acceptable.
-use Rattle.std.proofs.Common.{◌≡◌, ℕ, suc, ◌+◌, ◌<◌, ◌≤◌, Bool, true, false, not, ◌&&◌, eqb, ltb, leb, [], ◌∷◌, length, is_some, Some, None, Ok, Err, Option, sym, refl, ap, arith}
+use Rattle.std.proofs.Common.{◌≡◌, ℕ, suc, ◌+◌, ◌<◌, ◌≤◌, Bool, true, false, not, ◌&&◌, eqb, ltb, leb, [], ◌∷◌, length, is_some, Some, None, Ok, Option, sym, refl, ap, arith}
 use Rattle.std.proofs.lemmas.Bool.{and_parts, eqb-false, eqb-true, leb-false, leb-true, le-leb, ltb-false, ltb-true, not-true}
 use Rattle.faults.specs.declared.fault.Fault.{Fault}
 use Rattle.format.specs.Acceptable.{Ascends, Allowed, EachAllowed, Acceptable}
 use Rattle.format.specs.Book.{is_used, is_worn_out, may_put, body_answer, most_changes, most_body_bytes, has_room, decide_put, decide_remove}
 use Rattle.format.specs.Bytes.{Bytes}
-use Rattle.format.specs.Chain.{Answer, also, must}
 use Rattle.format.specs.Frames.{body_fault}
 use Rattle.format.specs.Revisions.{Revision, find, nth}
 use Rattle.format.specs.Updates.{Change, body, removed, Update, with_change, body_length, body_bytes, new_numbers}

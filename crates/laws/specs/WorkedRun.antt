@@ -2,12 +2,12 @@
 use Rattle.std.specs.Prelude.{◌≡◌, ℕ, true, false, List, [], ◌∷◌, Ok, Err, codes}
 use Rattle.faults.specs.declared.reason.Reason.TheVariants.{NoUpdate}
 use Rattle.faults.specs.Faults.{refused}
-use Rattle.format.specs.Account.{Event, file_of, objects_at, left_for, revisions_held}
-use Rattle.format.specs.Book.{Phase, standing, updating, Moment, Call, begin, put, remove, commit, back}
+use Rattle.format.specs.Account.{Event, file_of, objects_at, left_for}
+use Rattle.format.specs.Book.{Phase, standing, Moment, Call, begin, put, remove, commit, back}
 use Rattle.format.specs.Bytes.{Bytes}
 use Rattle.format.specs.Law.{RunFrom, account_of}
-use Rattle.format.specs.Updates.{body, removed, Update}
-use Rattle.format.specs.Worked.{worked_file, file2, file3, file4, objects1, objects2}
+use Rattle.format.specs.Updates.{body, Update}
+use Rattle.format.specs.Worked.{worked_file, file2, objects1, objects2}
 
 abbrev accepted : Call → Event
 accepted c = record { call = c; answer = Ok tt }

@@ -1,9 +1,9 @@
 -- Ends of line, at a place of the whole bytes.
-use Rattle.std.proofs.Common.{◌≡◌, ℕ, suc, ◌+◌, ◌<◌, ◌≤◌, true, false, eqb, List, [], ◌∷◌, length, get_or, drop, sym, refl, ap, ◌∙◌, add-one, arith}
+use Rattle.std.proofs.Common.{◌≡◌, ℕ, suc, ◌+◌, ◌<◌, ◌≤◌, true, false, eqb, [], ◌∷◌, length, get_or, drop, sym, refl, ◌∙◌, add-one, arith}
 use Rattle.std.proofs.lemmas.List.{at_drop_all}
 use Rattle.std.proofs.lemmas.Bool.{eq-eqb, ne_eqb}
 use Rattle.format.specs.Bytes.{Bytes}
-use Rattle.format.specs.Space.{Eol, no_bytes, no_eol, eol_to, after_cr, eol_at}
+use Rattle.format.specs.Space.{no_bytes, no_eol, eol_to, after_cr, eol_at}
 use Rattle.lexer.proofs.Places.{at_place}
 
 module _ (p x : ℕ) (xs : Bytes) where

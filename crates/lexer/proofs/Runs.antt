@@ -1,5 +1,5 @@
 -- Runs of bytes that pass a test, at a place of the whole bytes.
-use Rattle.std.proofs.Common.{◌≡◌, ℕ, suc, ◌+◌, ◌-◌, ◌<◌, ◌≤◌, Bool, true, false, List, [], ◌∷◌, ◌++◌, length, get_or, take, drop, sym, refl, ap, ◌∙◌, append_assoc, append-nil, add-one, arith, length-drop, get_or-drop}
+use Rattle.std.proofs.Common.{◌≡◌, ℕ, suc, ◌+◌, ◌-◌, ◌<◌, ◌≤◌, Bool, true, false, [], ◌∷◌, ◌++◌, length, get_or, drop, sym, refl, ap, ◌∙◌, append_assoc, append-nil, add-one, arith, length-drop, get_or-drop}
 use Rattle.std.proofs.lemmas.List.{at_drop_all, take_more}
 use Rattle.format.specs.Bytes.{Bytes, span, up_to}
 use Rattle.lexer.proofs.Places.{at_place}

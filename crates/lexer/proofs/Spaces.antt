@@ -1,9 +1,9 @@
 -- White space and runs, at a place of the whole bytes.
-use Rattle.std.proofs.Common.{◌≡◌, ℕ, suc, ◌+◌, ◌-◌, ◌<◌, ◌≤◌, Bool, true, false, not, ◌||◌, eqb, List, [], ◌∷◌, length, get_or, take, drop, sym, refl, ap, ◌∙◌, add-one, arith}
+use Rattle.std.proofs.Common.{◌≡◌, ℕ, suc, ◌+◌, ◌<◌, ◌≤◌, Bool, true, false, not, eqb, [], ◌∷◌, length, get_or, drop, sym, refl, ◌∙◌, add-one}
 use Rattle.std.proofs.lemmas.List.{at_drop_all}
 use Rattle.std.proofs.lemmas.Bool.{eq-eqb, ne_eqb}
 use Rattle.lexer.proofs.Places.{at_place}
-use Rattle.format.specs.Bytes.{Bytes, is_white, is_eol, is_regular, span, up_to}
+use Rattle.format.specs.Bytes.{Bytes, is_white, is_eol}
 use Rattle.format.specs.Space.{skip}
 
 -- The state behind one more byte: whether a comment is open.

@@ -1,13 +1,13 @@
 -- The token that starts at a place of the bytes.
-use Rattle.std.proofs.Common.{◌≡◌, ℕ, suc, ◌+◌, ◌-◌, ◌<◌, ◌≤◌, Bool, true, false, eqb, List, [], ◌∷◌, length, get_or, take, drop, Result, sym, refl, ap, ◌∙◌, subst, add-one, arith, length-drop, drop-cons}
-use Rattle.std.proofs.lemmas.List.{at_drop_all, drop_all}
+use Rattle.std.proofs.Common.{◌≡◌, ℕ, suc, ◌+◌, ◌-◌, ◌<◌, ◌≤◌, true, false, eqb, [], ◌∷◌, length, get_or, take, drop, Result, sym, ap, ◌∙◌, subst, add-one, arith, length-drop, drop-cons}
+use Rattle.std.proofs.lemmas.List.{at_drop_all}
 use Rattle.std.proofs.lemmas.Bool.{eq-eqb, ne_eqb}
 use Rattle.std.specs.List.{between}
 use Rattle.format.specs.Bytes.{Bytes, end_of, up_to, is_regular, span}
-use Rattle.format.specs.Names.{Decoded, decoded, wrong_hash, plain, decode}
+use Rattle.format.specs.Names.{decoded, wrong_hash, plain, decode}
 use Rattle.format.specs.Numbers.{Numeral, starts_number, numeral}
 use Rattle.format.specs.Strings.{Span, closed, unclosed, too_deep_at, broken_at, string_by, string, hex_string}
-use Rattle.format.specs.Tokens.{Mark, open_array, close_array, open_dict, close_dict, Flaw, bad_name, bad_hex, stray, cut_short, deep_bracket, Kind, name, text, hex, mark, word, flawed, Token, tok, one_byte, string_token, after_less, after_greater, name_kind, name_token, marked, numeral_kind, run_kind, run_token, start_at}
+use Rattle.format.specs.Tokens.{open_array, close_array, open_dict, close_dict, Flaw, bad_name, bad_hex, stray, cut_short, deep_bracket, Kind, name, text, hex, mark, word, flawed, Token, tok, one_byte, string_token, after_less, after_greater, name_kind, name_token, marked, numeral_kind, run_kind, run_token, start_at}
 use Rattle.lexer.specs.declared.flaw.Flaw.{Flaw as Broken}
 use Rattle.lexer.specs.declared.token.Token.{Token as Read}
 use Rattle.lexer.specs.Views.{Reads, bytes_at}

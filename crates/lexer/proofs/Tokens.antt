@@ -1,5 +1,5 @@
 -- The next token, behind white space and comments.
-use Rattle.std.proofs.Common.{◌≡◌, ℕ, suc, ◌<◌, ◌≤◌, true, false, List, [], ◌∷◌, length, get_or, drop, Some, None, sym, refl, ap, ◌∙◌, arith, drop-cons}
+use Rattle.std.proofs.Common.{◌≡◌, ℕ, ◌<◌, false, [], length, drop, Some, None, refl, ap, ◌∙◌, arith, drop-cons}
 use Rattle.std.proofs.lemmas.List.{drop_all}
 use Rattle.faults.specs.declared.fault.Fault.{Fault}
 use Rattle.format.specs.Bytes.{Bytes}

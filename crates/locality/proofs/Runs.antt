@@ -1,5 +1,5 @@
 -- Runs of bytes that pass a test: where they stop, and that numbers, names and words depend on their own bytes alone.
-use Rattle.std.proofs.Common.{◌≡◌, ℕ, suc, ◌+◌, ◌*◌, Bool, true, false, not, eqb, leb, [], ◌∷◌, ◌++◌, length, Some, None, refl, ap, ◌∙◌, arith}
+use Rattle.std.proofs.Common.{◌≡◌, ℕ, suc, ◌+◌, ◌*◌, Bool, true, false, eqb, leb, [], ◌∷◌, ◌++◌, length, Some, None, refl, ap, ◌∙◌, arith}
 use Rattle.format.specs.Bytes.{Bytes, is_digit, some, span, value}
 use Rattle.format.specs.Numbers.{starts_number, stops_at, bounded, unsigned_part, numeral}
 use Rattle.format.specs.Names.{hex_digit, Decoded, decoded, wrong_hash, joined, Escape, plain, hash, half, decode}

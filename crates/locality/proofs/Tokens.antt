@@ -1,5 +1,5 @@
 -- A token's own bytes decide it.
-use Rattle.std.proofs.Common.{◌≡◌, ℕ, suc, ◌+◌, Bool, true, false, not, eqb, [], ◌∷◌, ◌++◌, length, sym, refl, ap, ◌∙◌, subst, arith, eqb-true}
+use Rattle.std.proofs.Common.{◌≡◌, ℕ, suc, ◌+◌, Bool, true, false, eqb, [], ◌∷◌, ◌++◌, length, sym, refl, ap, ◌∙◌, subst, arith, eqb-true}
 use Rattle.format.specs.Bytes.{Bytes, is_white, is_eol, is_regular, is_delimiter, span, up_to}
 use Rattle.format.specs.Space.{skip}
 use Rattle.format.specs.Strings.{Span, closed, unclosed, too_deep_at, broken_at, string, hex_string}

@@ -1,5 +1,5 @@
 -- What the readers of streams and of objects in the file took decides what they answer; and a written object reads back.
-use Rattle.std.specs.Prelude.{◌≡◌, ℕ, ◌+◌, ◌≤◌, Bool, true, false, [], ◌∷◌, ◌++◌, length, None, codes}
+use Rattle.std.specs.Prelude.{◌≡◌, ℕ, ◌+◌, ◌≤◌, Bool, true, false, ◌∷◌, ◌++◌, length, None, codes}
 use Rattle.format.specs.Bytes.{Bytes, ok, is_regular}
 use Rattle.format.specs.Frames.{Framed, body_at, frame, body_fault}
 use Rattle.format.specs.Objects.{Obj, is_word}

@@ -1,5 +1,5 @@
 -- Bodies by how they start.
-use Rattle.std.proofs.Common.{◌≡◌, ℕ, suc, ◌<◌, ◌≤◌, Bool, true, false, ◌||◌, eqb, [], ◌∷◌, length, get_or, drop, ℤ, pos, negsuc, Some, None, codes, Option, sym, refl, ap, ◌∙◌, arith, length-drop}
+use Rattle.std.proofs.Common.{◌≡◌, ℕ, suc, ◌<◌, ◌≤◌, true, false, ◌||◌, eqb, [], ◌∷◌, length, get_or, drop, ℤ, pos, negsuc, Some, None, codes, Option, sym, refl, ap, ◌∙◌, arith, length-drop}
 use Rattle.faults.specs.declared.fault.Fault.{Fault}
 use Rattle.faults.specs.declared.reason.Reason.TheVariants.{OutsideBody}
 use Rattle.format.specs.Bytes.{Bytes, Got, ok, bad, then, is_white}
@@ -7,15 +7,15 @@ use Rattle.format.specs.Failures.{object_fault}
 use Rattle.format.specs.Strings.{turns}
 use Rattle.format.specs.Tokens.{Token, token_at}
 use Rattle.format.specs.Objects.{Obj, null, boolean, integer, decimal, literal, hexadecimal, named, array, dict, ref, Objs, Entries, no_entries, Reader, is_word, items, entries, one, in_array, in_dict, object_by, object, value_of}
-use Rattle.format.specs.Frames.{length_of, entries_of, length_here, stream_line, stream_data, stream_rest, streamed, body_at, starts_loose, body_ends, body_fault}
+use Rattle.format.specs.Frames.{length_of, entries_of, length_here, stream_line, stream_rest, streamed, body_at, starts_loose, body_ends, body_fault}
 use Rattle.objects.specs.declared.shape.Shape.{Shape}
 use Rattle.objects.specs.declared.shape.Shape.TheVariants as shapes
 use Rattle.objects.specs.declared.shape.Value.{Value}
 use Rattle.objects.specs.Shapes.{shape_of, shaped, shaped_maybe, shape_in, is_dict}
 use Rattle.objects.specs.Extents.{entries_by, read_by, find}
-use Rattle.objects.specs.Steps.{bare, token_in, EndsAt}
-use Rattle.objects.specs.Bodies.{natural_of, length_shape, length_in, rest_got, StreamWord}
-use Rattle.objects.proofs.Cases.{cases, cases_o}
+use Rattle.objects.specs.Steps.{bare, token_in}
+use Rattle.objects.specs.Bodies.{length_shape, length_in, rest_got, StreamWord}
+use Rattle.objects.proofs.Cases.{cases_o}
 use Rattle.objects.proofs.Extents.{entries_checked, read_checked}
 use Rattle.objects.proofs.Walks.{finds}
 use Rattle.objects.proofs.Turns.{shaped_ok}

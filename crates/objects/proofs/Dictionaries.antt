@@ -1,11 +1,10 @@
 -- A dictionary that has to stand next, as the code reads it.
-use Rattle.std.proofs.Common.{◌≡◌, ℕ, ◌+◌, ◌<◌, ◌≤◌, true, length, drop, Some, None, Ok, Err, Result, sym, refl, ap, ◌∙◌, arith, length-drop, MatchResult}
+use Rattle.std.proofs.Common.{◌≡◌, ℕ, ◌+◌, ◌<◌, ◌≤◌, true, length, drop, Some, None, Ok, sym, refl, ap, ◌∙◌, arith, length-drop}
 use Rattle.faults.specs.declared.fault.Fault.{Fault}
 use Rattle.faults.specs.declared.reason.Reason.TheVariants.{BytesEnd, BadToken}
-use Rattle.format.specs.Bytes.{Bytes, Got, ok, bad, then}
+use Rattle.format.specs.Bytes.{Bytes, ok, bad, then}
 use Rattle.format.specs.Failures.{object_fault}
 use Rattle.format.specs.Strings.{turns}
-use Rattle.format.specs.Tokens as format
 use Rattle.format.specs.Tokens.{token_at}
 use Rattle.format.specs.Objects.{Entries, no_entries, entries, object_by}
 use Rattle.format.specs.Sections.{no_dict, trailer_at}
@@ -14,10 +13,10 @@ use Rattle.lexer.specs.declared.token.Token.TheVariants.{Unsigned, Signed, Real,
 use Rattle.lexer.specs.declared.token.Found.{Found}
 use Rattle.lexer.specs.Views.{kind_of, found_token, token_fault_of}
 use Rattle.objects.specs.declared.dictionary.Dictionary.{Dictionary}
-use Rattle.objects.specs.Dictionaries.{Opening, Laid, Holding, Opened, OpenedAt}
+use Rattle.objects.specs.Dictionaries.{Opening, Opened, OpenedAt}
 use Rattle.objects.specs.Extents.{entries_by, read_by}
 use Rattle.objects.specs.Shifts.{later_fault}
-use Rattle.objects.specs.Steps.{bare, token_in, EndsAt}
+use Rattle.objects.specs.Steps.{bare, token_in}
 use Rattle.objects.proofs.Ends.{entries_read}
 use Rattle.objects.proofs.Founds.{flawed_kind}
 use Rattle.objects.proofs.Frames.{bare_ok, bare_bad}

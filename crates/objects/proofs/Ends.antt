@@ -2,12 +2,12 @@
 use Rattle.std.proofs.Common.{◌≡◌, ℕ, ◌≤◌, true, false, [], length, drop, None, sym, refl, ap, ◌∙◌}
 use Rattle.std.proofs.lemmas.List.{at_drop_all}
 use Rattle.faults.specs.declared.reason.Reason.TheVariants.{BytesEnd}
-use Rattle.format.specs.Bytes.{Bytes, Got, ok, bad}
+use Rattle.format.specs.Bytes.{Bytes, bad}
 use Rattle.format.specs.Failures.{object_fault}
 use Rattle.format.specs.Space.{skip}
 use Rattle.format.specs.Strings.{turns}
 use Rattle.format.specs.Tokens.{start_at, token_at}
-use Rattle.format.specs.Objects.{Reader, Entries, no_entries, of_token, one, object, object_by, next, entry_at, entries}
+use Rattle.format.specs.Objects.{Reader, no_entries, of_token, one, object, object_by, next, entry_at, entries}
 use Rattle.format.specs.Frames.{body_at}
 use Rattle.objects.specs.Extents.{entries_by, read_by, reached, find_at, find}
 use Rattle.objects.specs.Shapes.{shaped}

@@ -1,14 +1,12 @@
 -- The entries of a dictionary that was accepted, one by one, are those of its tree.
-use Rattle.std.proofs.Common.{◌≡◌, ℕ, zero, suc, ◌+◌, ◌-◌, ◌<◌, ◌≤◌, Bool, true, false, leb, length, take, drop, Some, None, sym, refl, ap, ◌∙◌, arith, leb-false, leb-true}
-use Rattle.format.specs.Bytes.{Bytes, Got, ok, bad, then, up_to}
+use Rattle.std.proofs.Common.{◌≡◌, ℕ, zero, suc, ◌-◌, ◌<◌, ◌≤◌, false, leb, length, take, drop, sym, refl, ap, ◌∙◌, arith, leb-false, leb-true}
+use Rattle.format.specs.Bytes.{Bytes, Got, ok, then, up_to}
 use Rattle.format.specs.Space.{skip}
 use Rattle.format.specs.Strings.{turns}
-use Rattle.format.specs.Tokens.{Token, token_at}
-use Rattle.format.specs.Objects.{Obj, Entries, no_entries, more_entries, object_by, holds, Next, closes, key, fails, next, valued, keyed, entry_at, entries}
-use Rattle.objects.specs.declared.shape.Entry.{Entry}
+use Rattle.format.specs.Objects.{Obj, Entries, no_entries, more_entries, object_by, holds, Next, closes, key, fails, valued, keyed, entry_at, entries}
 use Rattle.objects.specs.EntryByEntry.{EntryStands, EntriesFrom}
 use Rattle.objects.specs.Extents.{read_by, value_at}
-use Rattle.objects.specs.Nexts.{entry_of, entry_from, entry_in}
+use Rattle.objects.specs.Nexts.{entry_of, entry_from}
 use Rattle.objects.specs.Shapes.{shape_of}
 use Rattle.objects.specs.Steps.{bare, token_in, next_in}
 use Rattle.objects.specs.Theorems.{Lists}
@@ -16,9 +14,9 @@ use Rattle.objects.proofs.Cases.{cases, never, then_ok}
 use Rattle.objects.proofs.Ends.{entries_past}
 use Rattle.objects.proofs.Extents.{skips}
 use Rattle.objects.proofs.Nexts.{entry_closes}
-use Rattle.objects.proofs.Places.{At, Past, at_drop, Within, skip_past}
+use Rattle.objects.proofs.Places.{At, Past, at_drop, skip_past}
 use Rattle.objects.proofs.PlacesOfTokens.{TokenIn, token_in_fact}
-use Rattle.objects.proofs.PlacesOfObjects.{NextIn, next_at, took, object_in}
+use Rattle.objects.proofs.PlacesOfObjects.{NextIn, next_at, object_in}
 
 module _ (src : Bytes) where
   -- the entries of the tree behind the place q

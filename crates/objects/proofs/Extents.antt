@@ -1,14 +1,12 @@
 -- What is read with the check for keys that stood before is read without it.
-use Rattle.std.proofs.Common.{◌≡◌, ℕ, zero, suc, Bool, true, false, ◌&&◌, sym, refl, ap, ◌∙◌, arith}
-use Rattle.faults.specs.declared.fault.Fault.{Fault}
+use Rattle.std.proofs.Common.{◌≡◌, ℕ, zero, suc, Bool, true, false, ◌&&◌, refl, ap, ◌∙◌}
 use Rattle.format.specs.Bytes.{Bytes, Got, ok, bad, then, up_to}
-use Rattle.format.specs.Space.{skip}
 use Rattle.format.specs.Strings.{turns}
-use Rattle.format.specs.Tokens.{Mark, open_array, close_array, open_dict, close_dict, Kind, int, real, name, text, hex, mark, word, ended, flawed, Token, token_at}
-use Rattle.format.specs.Objects.{Obj, array, dict, Objs, more_objs, Entries, no_entries, more_entries, Reader, More, mark_obj, of_token, closes_array, items, holds, Next, closes, key, fails, next, valued, keyed, entry_at, entries, one, too_deep, in_array, in_dict, object_by}
+use Rattle.format.specs.Tokens.{open_array, close_array, open_dict, close_dict, Kind, int, real, name, text, hex, mark, word, ended, flawed, Token, token_at}
+use Rattle.format.specs.Objects.{Obj, dict, Objs, Entries, no_entries, more_entries, Reader, More, mark_obj, of_token, closes_array, items, holds, Next, closes, key, fails, next, valued, keyed, entry_at, entries, one, in_array, in_dict, object_by}
 use Rattle.objects.specs.Extents.{keyed_by, entry_at_by, entries_by, in_dict_by, read_by}
 use Rattle.objects.specs.Theorems.{Skips}
-use Rattle.objects.proofs.Cases.{cases, never, then_ok}
+use Rattle.objects.proofs.Cases.{cases, never}
 
 -- with the check, the entries are those of the definition
 pub entries_checked : (elem : Reader) (n : ℕ) (seen : Entries) (p : ℕ) (xs : Bytes) → entries_by true elem n seen p xs ≡ entries elem n seen p xs

@@ -1,17 +1,16 @@
 -- What a token that was found means where it stands.
-use Rattle.std.proofs.Common.{◌≡◌, ℕ, zero, suc, ◌<◌, ◌≤◌, Bool, true, false, ◌&&◌, length, drop, ℤ, pos, Some, None, codes, Option, sym, refl, ap, ◌∙◌, arith}
+use Rattle.std.proofs.Common.{◌≡◌, ℕ, ◌<◌, true, false, drop, pos, Some, None, codes, Option, refl, ap, arith}
 use Rattle.faults.specs.declared.fault.Fault.{Fault}
-use Rattle.faults.specs.declared.reason.Reason.TheVariants.{BytesEnd, BadToken}
+use Rattle.faults.specs.declared.reason.Reason.TheVariants.{BadToken}
 use Rattle.format.specs.Bytes.{Bytes, Got, ok, bad, same}
 use Rattle.format.specs.Failures.{object_fault}
 use Rattle.format.specs.Tokens as format
 use Rattle.format.specs.Tokens.{token_at, flaw_fault}
-use Rattle.format.specs.Objects.{Obj, Reader, plain_int, plain_word, is_word, word_obj, mark_obj, of_token, closes_array, Next, closes, key, fails, next, one}
+use Rattle.format.specs.Objects.{Reader, plain_int, plain_word, is_word, word_obj, of_token, closes_array, fails, next, one}
 use Rattle.lexer.specs.declared.token.Token.{Token}
 use Rattle.lexer.specs.declared.token.Token.TheVariants.{Unsigned, Signed, Real, Name, Text, Hex, Word, OpenArray, CloseArray, OpenDict, CloseDict, End}
 use Rattle.lexer.specs.declared.token.Found.{Found}
-use Rattle.lexer.specs.Spelled.{spelled}
-use Rattle.lexer.specs.Views.{kind_of, found_token, token_fault_of, kind_fault, Moves, Placed}
+use Rattle.lexer.specs.Views.{kind_of, found_token, token_fault_of, kind_fault, Placed}
 use Rattle.objects.specs.declared.shape.Shape.{Shape}
 use Rattle.objects.specs.declared.shape.Shape.TheVariants as shapes
 use Rattle.objects.specs.Shapes.{shaped, is_dict}

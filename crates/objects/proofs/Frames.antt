@@ -1,14 +1,14 @@
 -- Frames, part by part.
-use Rattle.std.proofs.Common.{◌≡◌, ℕ, Bool, true, false, eqb, length, drop, IfOk, Some, None, Ok, Err, codes, Result, sym, refl, ap, ◌∙◌, arith}
+use Rattle.std.proofs.Common.{◌≡◌, ℕ, true, false, eqb, drop, IfOk, Some, None, Err, codes, Result, sym, refl, ap, ◌∙◌, arith}
 use Rattle.std.proofs.lemmas.Bool.{eq-eqb, ne_eqb}
 use Rattle.faults.specs.declared.fault.Fault.{Fault}
 use Rattle.faults.specs.declared.reason.Reason.TheVariants.{BytesEnd, BadFrame}
-use Rattle.format.specs.Bytes.{Bytes, Got, ok, bad, then, up_to}
+use Rattle.format.specs.Bytes.{Bytes, Got, ok, bad, up_to}
 use Rattle.format.specs.Failures.{object_fault}
 use Rattle.format.specs.Space.{skip}
 use Rattle.format.specs.Tokens as format
 use Rattle.format.specs.Tokens.{token_at, start_at, flaw_fault}
-use Rattle.format.specs.Objects.{Obj, plain_int, plain_word, is_word}
+use Rattle.format.specs.Objects.{plain_int, plain_word, is_word}
 use Rattle.format.specs.Frames.{body_at, unfit, the_word, the_int, Framed, framed_body, frame_number, frame}
 use Rattle.lexer.specs.declared.token.Token.{Token}
 use Rattle.lexer.specs.declared.token.Token.TheVariants.{Unsigned, Signed, Real, Name, Text, Hex, Word, OpenArray, CloseArray, OpenDict, CloseDict, End}
@@ -18,7 +18,6 @@ use Rattle.objects.specs.Steps.{bare, token_in}
 use Rattle.objects.specs.declared.frame.Frame.{Frame}
 use Rattle.objects.specs.Framing.{int_got, head_of, framed, Ordered}
 use Rattle.objects.proofs.Founds.{flawed_kind, found_kind, found_from, no_int, no_word}
-use Rattle.objects.proofs.Cases.{cases}
 
 -- the bytes end where a part should be
 pub unfit_end : (p : ℕ) (t : Token) → t ≡ End → object_fault BytesEnd p ≡ unfit p (kind_of t)

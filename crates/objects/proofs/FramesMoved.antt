@@ -1,7 +1,7 @@
 -- A frame whose places count in the file.
-use Rattle.std.proofs.Common.{◌≡◌, ℕ, ◌+◌, ◌-◌, ◌≤◌, length, Ok, Err, sym, refl, ap, ◌∙◌, arith}
+use Rattle.std.proofs.Common.{◌≡◌, ℕ, ◌+◌, ◌-◌, ◌≤◌, length, Ok, sym, ap, ◌∙◌, arith}
 use Rattle.faults.specs.declared.fault.Fault.{Fault}
-use Rattle.format.specs.Bytes.{Bytes, Got, ok, bad, up_to}
+use Rattle.format.specs.Bytes.{Bytes, bad, up_to}
 use Rattle.format.specs.Frames.{frame}
 use Rattle.objects.specs.declared.frame.Frame.{Frame}
 use Rattle.objects.specs.Framing.{framed, Ordered, moved_frame, framed_at, FrameLies}

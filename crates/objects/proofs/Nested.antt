@@ -5,7 +5,7 @@ use Rattle.faults.specs.declared.reason.Reason.TheVariants.{TooDeep}
 use Rattle.format.specs.Bytes.{Bytes, Got, ok, bad, then}
 use Rattle.format.specs.Failures.{object_fault}
 use Rattle.format.specs.Strings.{turns}
-use Rattle.format.specs.Objects.{Obj, array, dict, Objs, Entries, no_entries, Reader, items, one, too_deep, in_array}
+use Rattle.format.specs.Objects.{Obj, array, dict, no_entries, Reader, items, one, too_deep, in_array}
 use Rattle.objects.specs.declared.shape.Shape.{Shape}
 use Rattle.objects.specs.declared.shape.Shape.TheVariants.{Array, Dictionary}
 use Rattle.objects.specs.Shapes.{shape_of, shaped}

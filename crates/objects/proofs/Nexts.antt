@@ -1,7 +1,7 @@
 -- The entry that stands next in a dictionary, as the code finds it.
-use Rattle.std.proofs.Common.{◌≡◌, ℕ, false, drop, Some, None, sym, refl, ap, ◌∙◌}
+use Rattle.std.proofs.Common.{◌≡◌, ℕ, false, drop, Some, None, sym, ap, ◌∙◌}
 use Rattle.faults.specs.declared.fault.Fault.{Fault}
-use Rattle.format.specs.Bytes.{Bytes, Got, ok, bad}
+use Rattle.format.specs.Bytes.{Bytes, ok, bad}
 use Rattle.format.specs.Space.{skip}
 use Rattle.format.specs.Objects.{Obj, closes, key, fails}
 use Rattle.objects.specs.declared.shape.Shape.{Shape}

@@ -1,12 +1,12 @@
 -- A stream, a frame and a trailer lie within the bytes in which they are read, and so do the places of their faults.
-use Rattle.std.proofs.Common.{◌≡◌, ℕ, suc, ◌+◌, ◌<◌, ◌≤◌, Bool, true, false, eqb, leb, [], ◌∷◌, ◌++◌, length, drop, replicate, Some, None, codes, Option, sym, refl, ap, ◌∙◌, arith, leb-true}
+use Rattle.std.proofs.Common.{◌≡◌, ℕ, suc, ◌+◌, ◌<◌, ◌≤◌, true, false, eqb, leb, [], ◌∷◌, ◌++◌, length, drop, replicate, Some, None, codes, Option, refl, arith, leb-true}
 use Rattle.faults.specs.declared.fault.Fault.{Fault}
-use Rattle.format.specs.Bytes.{Bytes, Got, ok, bad, then, end_of}
+use Rattle.format.specs.Bytes.{Bytes, Got, bad, then, end_of}
 use Rattle.format.specs.Space.{skip, Eol, no_bytes, no_eol, eol_to, after_cr, eol_at}
 use Rattle.format.specs.Strings.{turns}
 use Rattle.format.specs.Tokens.{Flaw, Kind, int, real, name, text, hex, mark, word, ended, flawed, flaw_fault, open_array, close_array, open_dict, close_dict, Token, token_at, start_at}
 use Rattle.format.specs.Objects.{Obj, Entries, no_entries, plain_int, is_word, entries, object_by, object}
-use Rattle.format.specs.Frames.{length_here, entries_of, stream_line, maybe_eol, behind, word_ends, end_stream, stream_data, stream_rest, streamed, body_at, unfit, the_word, the_int, Framed, framed_body, frame_number, frame}
+use Rattle.format.specs.Frames.{length_here, entries_of, stream_line, maybe_eol, behind, word_ends, end_stream, stream_data, stream_rest, streamed, body_at, unfit, the_word, the_int, framed_body, frame_number, frame}
 use Rattle.format.specs.Sections.{no_dict, trailer_at}
 use Rattle.objects.specs.Theorems.{FaultsLieWithin}
 use Rattle.objects.proofs.Cases.{cases, cases_o}

@@ -1,14 +1,13 @@
 -- An object lies within the bytes in which it is read, and so does the place of its fault.
-use Rattle.std.proofs.Common.{◌≡◌, ℕ, zero, suc, ◌+◌, ◌-◌, ◌<◌, ◌≤◌, Bool, true, false, ◌&&◌, leb, length, take, drop, ℤ, pos, negsuc, Some, None, codes, Option, sym, refl, ap, ◌∙◌, arith}
-use Rattle.faults.specs.declared.fault.Fault.{Fault}
-use Rattle.format.specs.Bytes.{Bytes, Got, ok, bad, then, up_to, same}
+use Rattle.std.proofs.Common.{◌≡◌, ℕ, zero, suc, ◌-◌, ◌<◌, ◌≤◌, Bool, true, false, ◌&&◌, leb, length, take, drop, ℤ, pos, negsuc, Some, None, codes, Option, refl, arith}
+use Rattle.format.specs.Bytes.{Bytes, then, up_to, same}
 use Rattle.format.specs.Space.{skip}
 use Rattle.format.specs.Strings.{turns}
-use Rattle.format.specs.Tokens.{Mark, open_array, close_array, open_dict, close_dict, Kind, int, real, name, text, hex, mark, word, ended, flawed, flaw_fault, Token, token_at}
-use Rattle.format.specs.Objects.{Obj, Objs, Entries, no_entries, more_entries, Reader, More, plain_int, plain_word, is_word, ref_mark, ref_rest, tried, trial, word_obj, mark_obj, of_token, closes_array, items, holds, Next, closes, key, fails, next, valued, keyed, entry_at, entries, one, too_deep, in_array, in_dict, object_by}
+use Rattle.format.specs.Tokens.{open_array, close_array, open_dict, close_dict, Kind, int, real, name, text, hex, mark, word, ended, flawed, Token, token_at}
+use Rattle.format.specs.Objects.{Obj, Entries, no_entries, more_entries, Reader, More, plain_int, plain_word, is_word, ref_mark, ref_rest, tried, trial, word_obj, mark_obj, of_token, closes_array, items, holds, Next, closes, key, fails, next, valued, keyed, entry_at, entries, one, too_deep, in_array, in_dict, object_by}
 use Rattle.lexer.specs.Spelled.{spelled}
 use Rattle.objects.proofs.Cases.{cases, cases_o}
-use Rattle.objects.proofs.Places.{At, Past, Within, Inside, earlier, then_in, skip_past}
+use Rattle.objects.proofs.Places.{At, Within, Inside, earlier, then_in, skip_past}
 use Rattle.objects.proofs.PlacesOfTokens.{Stands, TokenIn, token_in_fact}
 
 -- a reference that was found behind p, or nothing

@@ -1,12 +1,11 @@
 -- A token lies within the bytes in which it is read, and so does the place of its flaw.
-use Rattle.std.proofs.Common.{◌≡◌, ℕ, zero, suc, ◌+◌, ◌-◌, ◌<◌, ◌≤◌, Bool, true, false, ◌||◌, eqb, [], ◌∷◌, length, take, drop, sym, refl, ap, ◌∙◌, arith}
-use Rattle.faults.specs.declared.fault.Fault.{Fault}
+use Rattle.std.proofs.Common.{◌≡◌, ℕ, zero, suc, ◌+◌, ◌-◌, ◌<◌, ◌≤◌, true, false, ◌||◌, eqb, [], ◌∷◌, length, take, drop, sym, refl, ap, ◌∙◌, arith}
 use Rattle.format.specs.Bytes.{Bytes, end_of, up_to, is_white, is_regular, span}
 use Rattle.format.specs.Space.{skip}
 use Rattle.format.specs.Numbers.{Numeral, whole, fraction, past_bound, no_number, starts_number, numeral}
 use Rattle.format.specs.Names.{Decoded, decoded, wrong_hash, plain, decode}
 use Rattle.format.specs.Strings.{Span, closed, unclosed, too_deep_at, broken_at, Bracketed, onward, turns, literal, string_by, string, is_hex, hex_string}
-use Rattle.format.specs.Tokens.{Flaw, bad_name, bad_number, bad_hex, stray, cut_short, deep_bracket, out_of_range, Kind, int, real, name, text, hex, mark, word, ended, flawed, flaw_fault, open_array, close_array, open_dict, close_dict, Token, tok, one_byte, string_token, after_less, after_greater, name_kind, name_token, marked, numeral_kind, run_kind, run_token, start_at, token_at}
+use Rattle.format.specs.Tokens.{Flaw, bad_hex, stray, cut_short, deep_bracket, Kind, int, real, name, text, hex, mark, word, ended, flawed, flaw_fault, open_array, close_array, open_dict, close_dict, Token, tok, one_byte, string_token, after_less, after_greater, name_kind, name_token, marked, numeral_kind, run_kind, run_token, start_at, token_at}
 use Rattle.lexer.specs.Spelled.{spelled}
 use Rattle.lexer.proofs.Names.{spelled_is}
 use Rattle.objects.proofs.Cases.{cases}

@@ -1,9 +1,9 @@
 -- The trial for a reference.
-use Rattle.std.proofs.Common.{◌≡◌, ℕ, ◌<◌, ◌≤◌, Bool, true, false, ◌&&◌, leb, drop, Some, None, codes, Option, sym, refl, ap, ◌∙◌, arith, le-leb}
+use Rattle.std.proofs.Common.{◌≡◌, ℕ, ◌<◌, ◌≤◌, Bool, true, false, ◌&&◌, leb, drop, Some, None, codes, Option, sym, refl, ◌∙◌, arith, le-leb}
 use borrow.Author.Tests.{lt-leb}
 use Rattle.format.specs.Bytes.{Bytes, same}
-use Rattle.format.specs.Tokens.{Kind, Token, token_at}
-use Rattle.format.specs.Objects.{Obj, ref, plain_int, is_word, ref_mark, ref_rest}
+use Rattle.format.specs.Tokens.{token_at}
+use Rattle.format.specs.Objects.{ref, plain_int, is_word, ref_mark, ref_rest}
 use Rattle.objects.specs.Steps.{token_in, EndsAt, TakesR, Tries}
 use Rattle.objects.proofs.Cases.{cases}
 

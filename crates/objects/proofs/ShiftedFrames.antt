@@ -1,8 +1,7 @@
 -- A stream and a frame are the same where every place is later by as much.
-use Rattle.std.proofs.Common.{◌≡◌, ℕ, suc, ◌+◌, Bool, true, false, eqb, leb, [], ◌∷◌, length, drop, Some, None, codes, Option, sym, refl, ap, ◌∙◌, arith}
+use Rattle.std.proofs.Common.{◌≡◌, ℕ, suc, ◌+◌, true, false, eqb, leb, [], ◌∷◌, length, drop, Some, None, codes, Option, refl, ap, ◌∙◌, arith}
 use Rattle.std.proofs.lemmas.Bool.{eq-eqb, ne_eqb, eqb-true, eqb-false}
-use Rattle.faults.specs.declared.fault.Fault.{Fault}
-use Rattle.format.specs.Bytes.{Bytes, Got, ok, bad, then, end_of, up_to}
+use Rattle.format.specs.Bytes.{Bytes, Got, ok, bad, then, end_of}
 use Rattle.format.specs.Space.{skip, Eol, no_bytes, no_eol, eol_to, after_cr, eol_at}
 use Rattle.format.specs.Tokens.{Kind, int, real, name, text, hex, mark, word, ended, flawed, Token, token_at, start_at}
 use Rattle.format.specs.Objects.{Obj, Entries, plain_int, is_word, object}

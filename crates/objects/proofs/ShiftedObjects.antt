@@ -1,14 +1,13 @@
 -- An object and a frame are the same where every place is later by as much.
-use Rattle.std.proofs.Common.{◌≡◌, ℕ, zero, suc, ◌+◌, ◌-◌, ◌*◌, Bool, true, false, ◌&&◌, ◌||◌, eqb, leb, [], ◌∷◌, length, take, drop, ℤ, pos, negsuc, Some, None, codes, Option, sym, refl, ap, ◌∙◌, arith}
-use Rattle.faults.specs.declared.fault.Fault.{Fault}
-use Rattle.format.specs.Bytes.{Bytes, Got, ok, bad, then, end_of, up_to, same}
+use Rattle.std.proofs.Common.{◌≡◌, ℕ, zero, suc, ◌+◌, Bool, true, false, ◌&&◌, leb, ℤ, pos, negsuc, Some, None, codes, Option, refl, ap, ◌∙◌}
+use Rattle.format.specs.Bytes.{Bytes, Got, ok, bad, then, up_to, same}
 use Rattle.format.specs.Space.{skip}
 use Rattle.format.specs.Strings.{turns}
-use Rattle.format.specs.Tokens.{Mark, open_array, close_array, open_dict, close_dict, Kind, int, real, name, text, hex, mark, word, ended, flawed, flaw_fault, Token, tok, token_at}
-use Rattle.format.specs.Objects.{Obj, integer, array, dict, ref, Objs, more_objs, Entries, no_entries, more_entries, Reader, More, plain_int, plain_word, is_word, ref_mark, ref_rest, tried, trial, word_obj, mark_obj, of_token, closes_array, items, holds, Next, closes, key, fails, next, valued, keyed, entry_at, entries, one, too_deep, in_array, in_dict, object_by}
-use Rattle.objects.specs.Shifts.{later_fault, later, later_flaw, later_kind, later_token}
+use Rattle.format.specs.Tokens.{open_array, close_array, open_dict, close_dict, Kind, int, real, name, text, hex, mark, word, ended, flawed, Token, token_at}
+use Rattle.format.specs.Objects.{Obj, Entries, no_entries, more_entries, Reader, More, plain_int, plain_word, is_word, ref_mark, ref_rest, tried, trial, word_obj, mark_obj, of_token, closes_array, items, holds, Next, closes, key, fails, next, valued, keyed, entry_at, entries, one, too_deep, in_array, in_dict, object_by}
+use Rattle.objects.specs.Shifts.{later_fault, later, later_kind, later_token}
 use Rattle.objects.proofs.Cases.{cases, cases_o}
-use Rattle.objects.proofs.ShiftedTokens.{up_to_later, skip_later, start_later, token_later, flaw_later}
+use Rattle.objects.proofs.ShiftedTokens.{up_to_later, skip_later, token_later, flaw_later}
 
 module _ (b : ℕ) where
   -- a reader that answers the same where every place is later by b

@@ -1,13 +1,12 @@
 -- A token is the same where every place is later by as much.
-use Rattle.std.proofs.Common.{◌≡◌, ℕ, zero, suc, ◌+◌, ◌-◌, ◌*◌, Bool, true, false, ◌&&◌, ◌||◌, eqb, leb, [], ◌∷◌, length, take, Some, None, Option, sym, refl, ap, ◌∙◌, arith}
-use Rattle.faults.specs.declared.fault.Fault.{Fault}
-use Rattle.format.specs.Bytes.{Bytes, Got, ok, bad, end_of, up_to, is_white, is_eol, is_regular, is_digit, span, some, value}
+use Rattle.std.proofs.Common.{◌≡◌, ℕ, zero, suc, ◌+◌, ◌-◌, ◌*◌, Bool, true, false, ◌||◌, eqb, leb, [], ◌∷◌, length, Some, None, refl, ap, ◌∙◌, arith}
+use Rattle.format.specs.Bytes.{Bytes, end_of, up_to, is_white, is_eol, is_regular, is_digit, span, some, value}
 use Rattle.format.specs.Space.{skip}
 use Rattle.format.specs.Numbers.{Numeral, whole, fraction, past_bound, no_number, starts_number, stops_at, bounded, unsigned_part, numeral}
 use Rattle.format.specs.Names.{hex_digit, Decoded, decoded, wrong_hash, joined, Escape, plain, hash, half, decode}
 use Rattle.format.specs.Strings.{Span, closed, unclosed, too_deep_at, broken_at, Bracketed, onward, turns, literal, string_by, string, is_hex, hex_string}
-use Rattle.format.specs.Tokens.{Flaw, bad_name, bad_number, bad_hex, stray, cut_short, deep_bracket, out_of_range, Kind, int, real, name, text, hex, mark, word, ended, flawed, flaw_fault, open_array, close_array, open_dict, close_dict, Token, tok, one_byte, string_token, after_less, after_greater, name_kind, name_token, marked, numeral_kind, run_kind, run_token, start_at, token_at}
-use Rattle.objects.specs.Shifts.{later_fault, later, later_place, later_numeral, later_decoded, later_escape, later_span, later_flaw, later_kind, later_token}
+use Rattle.format.specs.Tokens.{Flaw, bad_name, bad_number, bad_hex, stray, cut_short, deep_bracket, out_of_range, Kind, text, hex, mark, flawed, flaw_fault, open_array, close_array, tok, one_byte, string_token, after_less, after_greater, name_kind, name_token, marked, numeral_kind, run_kind, run_token, start_at, token_at}
+use Rattle.objects.specs.Shifts.{later_fault, later_place, later_numeral, later_decoded, later_escape, later_span, later_flaw, later_kind, later_token}
 use Rattle.objects.proofs.Cases.{cases, cases_o}
 
 module _ (b : ℕ) where

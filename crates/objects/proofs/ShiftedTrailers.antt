@@ -1,5 +1,5 @@
 -- A trailer's dictionary is the same where every place is later by as much.
-use Rattle.std.proofs.Common.{◌≡◌, ℕ, ◌+◌, Bool, true, false, Some, None, Option, sym, refl, ap, ◌∙◌}
+use Rattle.std.proofs.Common.{◌≡◌, ℕ, ◌+◌, Some, None, Option, refl, ap, ◌∙◌}
 use Rattle.faults.specs.declared.fault.Fault.{Fault}
 use Rattle.format.specs.Bytes.{Bytes, Got, ok, bad, then}
 use Rattle.format.specs.Strings.{turns}

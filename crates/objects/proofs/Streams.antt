@@ -1,12 +1,12 @@
 -- The parts of a stream, at a place of the bytes.
-use Rattle.std.proofs.Common.{◌≡◌, ℕ, zero, suc, ◌+◌, ◌-◌, ◌<◌, ◌≤◌, Bool, true, false, ◌&&◌, eqb, leb, List, [], ◌∷◌, length, get_or, take, drop, Some, None, codes, Option, sym, refl, ap, ◌∙◌, add-one, arith, length-drop, drop-cons, drop-drop, le-leb}
+use Rattle.std.proofs.Common.{◌≡◌, ℕ, suc, ◌+◌, ◌-◌, ◌<◌, ◌≤◌, Bool, true, false, eqb, leb, List, [], ◌∷◌, length, get_or, take, drop, Some, None, codes, sym, refl, ap, ◌∙◌, add-one, arith, length-drop, drop-cons, drop-drop, le-leb}
 use borrow.Author.Tests.{lt-leb}
 use Rattle.std.proofs.lemmas.List.{at_drop_all}
 use Rattle.std.proofs.lemmas.Bool.{eq-eqb, ne_eqb}
 use Rattle.faults.specs.declared.reason.Reason.TheVariants.{BytesEnd, BadFrame}
-use Rattle.format.specs.Bytes.{Bytes, Got, ok, bad, end_of, same, is_regular}
+use Rattle.format.specs.Bytes.{Bytes, ok, bad, end_of, same, is_regular}
 use Rattle.format.specs.Failures.{object_fault}
-use Rattle.format.specs.Space.{Eol, no_bytes, no_eol, eol_to, after_cr, eol_at}
+use Rattle.format.specs.Space.{no_bytes, no_eol, eol_to, after_cr, eol_at}
 use Rattle.format.specs.Frames.{stream_line, maybe_eol, behind, word_ends, end_stream, stream_data}
 use Rattle.objects.proofs.Cases.{cases}
 

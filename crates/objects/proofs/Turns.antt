@@ -1,21 +1,20 @@
 -- Arrays, dictionaries and walks over entries, at a place inside them.
-use Rattle.std.proofs.Common.{◌≡◌, ℕ, zero, suc, ◌+◌, ◌-◌, ◌<◌, ◌≤◌, Bool, true, false, ◌&&◌, ◌||◌, leb, length, drop, is_some, Some, None, Option, sym, refl, ap, ◌∙◌, arith}
+use Rattle.std.proofs.Common.{◌≡◌, ℕ, zero, suc, ◌+◌, ◌<◌, ◌≤◌, Bool, true, false, ◌&&◌, length, drop, is_some, Some, None, Option, sym, refl, ap, ◌∙◌, arith}
 use Rattle.faults.specs.declared.fault.Fault.{Fault}
 use Rattle.faults.specs.declared.reason.Reason.TheVariants.{KeyAgain}
 use Rattle.format.specs.Bytes.{Bytes, Got, ok, bad, then, up_to, same}
 use Rattle.format.specs.Failures.{object_fault}
 use Rattle.format.specs.Space.{skip}
 use Rattle.format.specs.Strings.{turns}
-use Rattle.format.specs.Tokens.{Token, token_at}
-use Rattle.format.specs.Objects.{Obj, Objs, more_objs, Entries, no_entries, more_entries, Reader, More, closes_array, items, holds, Next, closes, key, fails, next, valued}
+use Rattle.format.specs.Objects.{Obj, more_objs, Entries, no_entries, more_entries, Reader, closes_array, items, holds, closes, key, fails, valued}
 use Rattle.objects.specs.declared.shape.Shape.{Shape}
 use Rattle.objects.specs.declared.shape.Value.{Value}
 use Rattle.objects.specs.Shapes.{shape_of, shaped}
 use Rattle.objects.specs.Extents.{keyed_by, entry_at_by, entries_by, read_by, reached, value_at, beyond, passing, value_behind, find_at, find}
 use Rattle.objects.specs.Steps.{bare, token_in, next_in, EndsAt}
 use Rattle.objects.proofs.Cases.{cases}
-use Rattle.objects.proofs.Extents.{Above, read_above}
-use Rattle.objects.proofs.Walks.{Road, value_in, road_above, walk_meets}
+use Rattle.objects.proofs.Extents.{read_above}
+use Rattle.objects.proofs.Walks.{Road, road_above, walk_meets}
 
 -- an object that was read, from what is seen of it
 pub shaped_ok : (r : Got Obj) (s : Shape) (q : ℕ) (ys : Bytes) → ok s q ys ≡ shaped r → (o : Obj) × (r ≡ ok o q ys) × (s ≡ shape_of o)

@@ -1,14 +1,13 @@
 -- A walk over the entries of a dictionary meets the keys that stood before, and finds the value of a key.
 use Rattle.std.proofs.Common.{◌≡◌, ℕ, zero, suc, ◌+◌, ◌-◌, ◌<◌, ◌≤◌, Bool, true, false, ◌&&◌, ◌||◌, leb, drop, is_some, Some, None, Option, sym, refl, ap, ◌∙◌, arith, le-leb}
 use borrow.Author.Tests.{lt-leb}
-use Rattle.format.specs.Bytes.{Bytes, Got, ok, bad, then, up_to, same}
+use Rattle.format.specs.Bytes.{Bytes, Got, ok, then, up_to, same}
 use Rattle.format.specs.Space.{skip}
 use Rattle.format.specs.Strings.{turns}
-use Rattle.format.specs.Tokens.{Token, token_at}
-use Rattle.format.specs.Objects.{Obj, Entries, no_entries, more_entries, Reader, More, holds, Next, closes, key, fails, next, valued, value_of, object_by}
-use Rattle.objects.specs.declared.shape.Shape.{Shape}
+use Rattle.format.specs.Tokens.{token_at}
+use Rattle.format.specs.Objects.{Obj, Entries, no_entries, more_entries, Reader, holds, Next, closes, key, fails, next, valued, value_of, object_by}
 use Rattle.objects.specs.declared.shape.Value.{Value}
-use Rattle.objects.specs.Shapes.{shape_of, shaped_maybe, shape_in}
+use Rattle.objects.specs.Shapes.{shaped_maybe, shape_in}
 use Rattle.objects.specs.Theorems.{Finds}
 use Rattle.objects.specs.Extents.{keyed_by, entry_at_by, entries_by, reached, value_at, beyond, passing, value_behind, find_at, find, read_by}
 use Rattle.objects.specs.Steps.{token_in, next_in}

@@ -1,8 +1,8 @@
 -- What the readers of bodies answer, as the definitions say it.
-use Rattle.std.specs.Prelude.{◌≡◌, ℕ, Bool, true, false, length, drop, ℤ, pos, negsuc, Some, None, Ok, Err, codes, Option, Result}
+use Rattle.std.specs.Prelude.{◌≡◌, ℕ, true, false, drop, ℤ, pos, negsuc, Some, None, Ok, Err, codes, Option, Result}
 use Rattle.faults.specs.declared.fault.Fault.{Fault}
 use Rattle.faults.specs.declared.reason.Reason.TheVariants.{BadFrame}
-use Rattle.format.specs.Bytes.{Bytes, Got, ok, bad, then}
+use Rattle.format.specs.Bytes.{Bytes, Got, bad, then}
 use Rattle.format.specs.Failures.{object_fault}
 use Rattle.format.specs.Strings.{turns}
 use Rattle.format.specs.Frames.{stream_line, stream_data}

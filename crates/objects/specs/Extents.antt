@@ -8,7 +8,6 @@ use Rattle.format.specs.Strings.{turns}
 use Rattle.format.specs.Tokens.{Token, token_at}
 use Rattle.format.specs.Objects.{Obj, dict, Entries, no_entries, Reader, More, holds, Next, closes, key, fails, next, valued, one, too_deep, in_array}
 use Rattle.objects.specs.Shapes.{shape_of}
-use Rattle.objects.specs.declared.shape.Shape.{Shape}
 use Rattle.objects.specs.declared.shape.Value.{Value}
 
 -- an entry, from its key's token; if c, a key that stood before is refused

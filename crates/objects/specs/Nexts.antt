@@ -1,5 +1,5 @@
 -- The entry that stands next in a dictionary.
-use Rattle.std.specs.Prelude.{ℕ, false, drop, Some, None, Option}
+use Rattle.std.specs.Prelude.{ℕ, false, Some, None, Option}
 use Rattle.format.specs.Bytes.{Bytes}
 use Rattle.format.specs.Space.{skip}
 use Rattle.format.specs.Tokens.{Token}

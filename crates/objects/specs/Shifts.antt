@@ -1,7 +1,7 @@
 -- What a reader answers where every place is later by as much.
 use Rattle.std.specs.Prelude.{ℕ, ◌+◌, Some, None, Option}
 use Rattle.faults.specs.declared.fault.Fault.{Fault}
-use Rattle.format.specs.Bytes.{Bytes, Got, ok, bad}
+use Rattle.format.specs.Bytes.{Got, ok, bad}
 use Rattle.format.specs.Numbers.{Numeral, whole, fraction, past_bound, no_number}
 use Rattle.format.specs.Names.{Decoded, decoded, wrong_hash, Escape, plain, hash, half}
 use Rattle.format.specs.Strings.{Span, closed, unclosed, too_deep_at, broken_at}

@@ -1,10 +1,9 @@
 -- What the readers of objects answer, as the definitions say it.
-use Rattle.std.specs.Prelude.{◌≡◌, ℕ, suc, ◌<◌, ◌≤◌, Bool, true, false, length, drop, Some, None, Ok, Err, codes, Option, Result}
+use Rattle.std.specs.Prelude.{◌≡◌, ℕ, ◌<◌, ◌≤◌, Bool, true, false, length, drop, Some, None, Ok, Err, codes, Option, Result}
 use Rattle.faults.specs.declared.fault.Fault.{Fault}
 use Rattle.format.specs.Bytes.{Bytes, Got, ok, bad, same}
-use Rattle.format.specs.Space.{skip}
 use Rattle.format.specs.Tokens.{Token, token_at}
-use Rattle.format.specs.Objects.{Obj, ref, Reader, Next, closes, key, fails, next, closes_array, one, plain_int, is_word, ref_rest}
+use Rattle.format.specs.Objects.{ref, Reader, Next, closes, key, fails, next, closes_array, one, plain_int, is_word, ref_rest}
 use Rattle.objects.specs.declared.shape.Shape.{Shape}
 use Rattle.objects.specs.declared.shape.Shape.TheVariants as shapes
 use Rattle.objects.specs.declared.shape.Extent.{Extent}

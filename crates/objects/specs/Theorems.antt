@@ -1,9 +1,9 @@
 -- The theorems on the definitions that the readers rest on.
-use Rattle.std.specs.Prelude.{◌≡◌, ℕ, ◌+◌, ◌≤◌, true, false, length, drop, Some, None}
+use Rattle.std.specs.Prelude.{◌≡◌, ℕ, ◌+◌, ◌≤◌, false, length, drop, None}
 use Rattle.faults.specs.declared.fault.Fault.{Fault}
-use Rattle.format.specs.Bytes.{Bytes, Got, ok, bad}
+use Rattle.format.specs.Bytes.{Bytes, ok, bad}
 use Rattle.format.specs.Strings.{turns}
-use Rattle.format.specs.Tokens.{Flaw, flawed, flaw_fault, Token, token_at}
+use Rattle.format.specs.Tokens.{Flaw, flawed, flaw_fault, token_at}
 use Rattle.format.specs.Objects.{Obj, Entries, no_entries, entries, object_by, value_of}
 use Rattle.format.specs.Frames.{body_at, frame}
 use Rattle.format.specs.Sections.{trailer_at}

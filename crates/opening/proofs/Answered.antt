@@ -4,7 +4,7 @@ use Rattle.faults.specs.declared.fault.Fault.{Fault}
 use Rattle.faults.specs.declared.reason.Reason.TheVariants.{BytesEnd}
 use Rattle.format.specs.Bytes.{Bytes, Got, ok, bad, then, end_of}
 use Rattle.format.specs.Failures.{section_fault}
-use Rattle.format.specs.Lines.{Piece, took, placed}
+use Rattle.format.specs.Lines.{Piece, placed}
 use Rattle.opening.specs.declared.part.Lack.{Lack}
 use Rattle.opening.specs.declared.part.Lack.TheVariants.{Short, Misfit}
 use Rattle.opening.specs.Answers.{line_fault, piece_here, answered, passed_to, EndsWithin}

@@ -1,9 +1,9 @@
 -- The mark and the end of an entry, at a place of the window.
-use Rattle.std.proofs.Common.{◌≡◌, ℕ, suc, ◌+◌, ◌<◌, ◌≤◌, Bool, true, false, ◌||◌, eqb, List, [], ◌∷◌, length, get_or, drop, sym, refl, ap, ◌∙◌, arith}
+use Rattle.std.proofs.Common.{◌≡◌, ℕ, suc, ◌+◌, ◌<◌, ◌≤◌, true, false, ◌||◌, eqb, [], ◌∷◌, length, get_or, drop, ap, ◌∙◌, arith}
 use Rattle.std.proofs.lemmas.List.{at_drop_all}
 use Rattle.std.proofs.lemmas.Bool.{eq-eqb, ne_eqb}
 use Rattle.format.specs.Bytes.{Bytes}
-use Rattle.format.specs.Lines.{Piece, took, short, misfit, use_mark, slot_end, slot_ends}
+use Rattle.format.specs.Lines.{took, short, misfit, use_mark, slot_end, slot_ends}
 use Rattle.opening.proofs.Places.{at_place, one_on, two_on}
 
 module _ (p x : ℕ) (xs : Bytes) where

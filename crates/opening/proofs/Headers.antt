@@ -1,5 +1,5 @@
 -- The header, at the start of the bytes.
-use Rattle.std.proofs.Common.{◌≡◌, ℕ, suc, ◌+◌, ◌-◌, ◌<◌, ◌≤◌, Bool, true, false, ◌&&◌, eqb, leb, [], ◌∷◌, length, get_or, take, drop, Some, None, Ok, Err, codes, Option, Result, sym, refl, ap, ◌∙◌, suc-add, zero-add, arith}
+use Rattle.std.proofs.Common.{◌≡◌, ℕ, suc, ◌+◌, ◌-◌, ◌<◌, ◌≤◌, Bool, false, ◌&&◌, eqb, leb, [], ◌∷◌, length, get_or, take, drop, Some, None, Ok, Err, codes, Option, sym, refl, ap, ◌∙◌, suc-add, zero-add, arith}
 use Rattle.std.proofs.lemmas.List.{at_drop_all}
 use Rattle.format.specs.Bytes.{Bytes}
 use Rattle.format.specs.Frames.{behind}
@@ -8,7 +8,7 @@ use Rattle.format.specs.Revisions.{version_fits, header_fits}
 use Rattle.locality.proofs.Cases.{cases}
 use Rattle.opening.specs.declared.part.Lack.{Lack}
 use Rattle.opening.specs.declared.part.Lack.TheVariants.{Short, Misfit}
-use Rattle.opening.specs.Parts.{Passes, passed}
+use Rattle.opening.specs.Parts.{Passes}
 use Rattle.opening.proofs.Places.{at_place}
 
 -- what stands at a place

@@ -1,9 +1,9 @@
 -- The entries of a subsection, one after another.
-use Rattle.std.proofs.Common.{◌≡◌, ℕ, zero, suc, ◌+◌, ◌-◌, ◌*◌, ◌<◌, ◌≤◌, Bool, true, false, ◌||◌, eqb, List, [], ◌∷◌, ◌++◌, length, drop, sym, refl, ap, ◌∙◌, append_assoc, append-nil, arith, length-drop}
+use Rattle.std.proofs.Common.{◌≡◌, ℕ, zero, suc, ◌+◌, ◌-◌, ◌<◌, ◌≤◌, Bool, true, false, ◌||◌, eqb, List, [], ◌∷◌, ◌++◌, length, drop, sym, refl, ap, ◌∙◌, append_assoc, append-nil, arith, length-drop}
 use mathlib.Core.List.{map-append}
 use Rattle.faults.specs.declared.fault.Fault.{Fault}
 use Rattle.format.specs.Bytes.{Bytes, Got, ok, bad, then, is_digit}
-use Rattle.format.specs.Lines.{Piece, took, short, misfit, next, placed, Slot, exact, digits_of, use_mark, slot_ends, slot_end, slot}
+use Rattle.format.specs.Lines.{Piece, took, short, misfit, placed, Slot, exact, digits_of, use_mark, slot_ends, slot_end, slot}
 use Rattle.format.specs.Sections.{Listed, slots}
 use Rattle.entries.specs.declared.entry.Entry.{Entry}
 use Rattle.entries.specs.declared.entry.Row.{Row}

@@ -1,7 +1,7 @@
 -- One part of a line after another.
-use Rattle.std.proofs.Common.{◌≡◌, ℕ, ◌+◌, ◌≤◌, length, drop, Ok, Err, Result, sym, refl, ap, ◌∙◌, arith}
+use Rattle.std.proofs.Common.{◌≡◌, ℕ, ◌+◌, ◌≤◌, drop, Ok, Err, Result, ap, ◌∙◌, arith}
 use Rattle.format.specs.Bytes.{Bytes}
-use Rattle.format.specs.Lines.{Piece, took, short, misfit, next}
+use Rattle.format.specs.Lines.{Piece, took, next}
 use Rattle.opening.specs.declared.part.Lack.{Lack}
 use Rattle.opening.specs.declared.part.Lack.TheVariants.{Short, Misfit}
 use Rattle.opening.specs.Parts.{lacking, PassesWithin, Passes, Takes}

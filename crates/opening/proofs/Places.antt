@@ -1,7 +1,6 @@
 -- What stands at a place of the window, as the definitions read it.
-use Rattle.std.proofs.Common.{◌≡◌, ℕ, suc, ◌+◌, ◌<◌, ◌≤◌, List, [], ◌∷◌, length, get_or, drop, ap, arith}
+use Rattle.std.proofs.Common.{◌≡◌, ℕ, suc, ◌+◌, ◌<◌, List, ◌∷◌, length, get_or, drop, ap, arith}
 use Rattle.std.proofs.lemmas.List.{at_drop_more}
-use Rattle.format.specs.Lines.{Piece, took}
 
 -- a byte stands there, and the others behind it
 pub at_place : {Y : Type 0} (F : List ℕ → Y) (src : List ℕ) (p : ℕ) → p < length src → F (drop p src) ≡ F (get_or src p 0 ∷ drop (p + 1) src)

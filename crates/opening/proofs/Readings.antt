@@ -1,7 +1,7 @@
 -- What was read, and what was refused.
-use Rattle.std.proofs.Common.{◌≡◌, ℕ, ◌+◌, ◌≤◌, length, drop, IfOk, Ok, Err, Result, refl, ap, arith, MatchResult}
+use Rattle.std.proofs.Common.{◌≡◌, ℕ, IfOk, Err, Result, refl, ap, arith, MatchResult}
 use Rattle.faults.specs.declared.fault.Fault.{Fault}
-use Rattle.format.specs.Bytes.{Bytes, Got, ok, bad, then}
+use Rattle.format.specs.Bytes.{Bytes, Got, ok, bad}
 use Rattle.opening.specs.Readings.{seen_as, Reads}
 
 pub reads_bad : {A B T : Type 0} (view : A → B) (got : Got A) (value : T → B) (place : T → ℕ) (base : ℕ) (src : Bytes) (from : ℕ) (r : Result T Fault) (f : Fault) → r ≡ Err f → seen_as view got ≡ bad f → Reads view got value place base src from r

@@ -1,5 +1,5 @@
 -- A whole section, part by part.
-use Rattle.std.proofs.Common.{◌≡◌, ℕ, ◌+◌, ◌<◌, ◌≤◌, Bool, false, List, [], ◌∷◌, ◌++◌, length, drop, codes, sym, refl, ap, ◌∙◌, arith}
+use Rattle.std.proofs.Common.{◌≡◌, ℕ, ◌+◌, false, List, drop, codes, sym, refl, ap, ◌∙◌, arith}
 use Rattle.faults.specs.declared.fault.Fault.{Fault}
 use Rattle.format.specs.Bytes.{Bytes, Got, ok, bad, then}
 use Rattle.format.specs.Lines.{placed, exact, exact_line}
@@ -8,7 +8,7 @@ use Rattle.format.specs.Sections.{Sub, all_subs, trailer_at, tail, Section, sect
 use Rattle.format.specs.Space.{skip}
 use Rattle.format.specs.Tokens.{token_at}
 use Rattle.objects.proofs.ShiftedTokens.{skip_later}
-use Rattle.opening.proofs.Answered.{then_on, then_cut}
+use Rattle.opening.proofs.Answered.{then_cut}
 
 -- behind the trailer's dictionary: the place of its `<<`, and its entries
 abbrev closing : (off : ℕ) → List Sub → ℕ × Entries → ℕ → Bytes → Got Section

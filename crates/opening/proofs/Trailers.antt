@@ -1,14 +1,11 @@
 -- What a trailer's entries are, by the shapes of their values.
 use Rattle.std.proofs.Common.{◌≡◌, ℕ, Bool, true, false, ◌&&◌, drop, ℤ, Some, None, codes, Option, sym, refl, ap, ◌∙◌}
 use mathlib.Core.Bool.{and-false}
-use Rattle.format.specs.Bytes.{Bytes, Got, ok}
+use Rattle.format.specs.Bytes.{Bytes, ok}
 use Rattle.format.specs.Chain as format
 use Rattle.format.specs.Chain.{Entry, entry_of, trailer_entry, is_absent, prev_of, size_of, root_of, told_by, Told, told}
 use Rattle.format.specs.Objects.{Obj, null, boolean, integer, decimal, literal, hexadecimal, named, array, dict, ref, Entries, no_entries, entries, object_by, value_of}
 use Rattle.format.specs.Strings.{turns}
-use Rattle.objects.specs.declared.shape.Shape.{Shape}
-use Rattle.objects.specs.declared.shape.Shape.TheVariants as shapes
-use Rattle.objects.specs.declared.shape.Value.{Value}
 use Rattle.objects.specs.Extents.{read_by, find}
 use Rattle.objects.specs.Shapes.{shaped_maybe, shape_in, shape_of}
 use Rattle.objects.proofs.Walks.{finds}

@@ -1,11 +1,11 @@
 -- Ends of line and words, at a place of the window.
-use Rattle.std.proofs.Common.{◌≡◌, ℕ, suc, ◌+◌, ◌<◌, ◌≤◌, Bool, true, false, eqb, List, [], ◌∷◌, length, get_or, drop, sym, refl, ap, ◌∙◌, arith}
+use Rattle.std.proofs.Common.{◌≡◌, ℕ, suc, ◌+◌, ◌<◌, ◌≤◌, true, false, eqb, [], ◌∷◌, length, get_or, drop, sym, refl, ap, ◌∙◌, arith}
 use Rattle.std.proofs.lemmas.List.{at_drop_all}
 use Rattle.std.proofs.lemmas.Bool.{eq-eqb, ne_eqb}
 use Rattle.format.specs.Bytes.{Bytes}
-use Rattle.format.specs.Space.{Eol, no_bytes, no_eol, eol_to, after_cr, eol_at}
+use Rattle.format.specs.Space.{no_eol, eol_to, after_cr, eol_at}
 use Rattle.format.specs.Lines.{Piece, took, short, misfit, eol_piece, eol, exact}
-use Rattle.opening.proofs.Places.{at_place, one_on, two_on}
+use Rattle.opening.proofs.Places.{at_place, one_on}
 
 module _ (p x : ℕ) (xs : Bytes) where
   lf_here : eqb x 10 ≡ true → eol_at p (x ∷ xs) ≡ eol_to (suc p) xs

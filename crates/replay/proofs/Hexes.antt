@@ -1,5 +1,5 @@
 -- What one byte more adds to a hex text.
-use Rattle.std.proofs.Common.{◌≡◌, ℕ, ◌+◌, ◌-◌, ◌*◌, ◌/◌, ◌%◌, ◌<◌, List, [], ◌∷◌, ◌++◌, length, get_or, take, drop, refl, ap, append_assoc, arith, length-drop, length-take, take-add, below_more}
+use Rattle.std.proofs.Common.{◌≡◌, ℕ, ◌+◌, ◌*◌, ◌/◌, ◌%◌, ◌<◌, List, [], ◌∷◌, ◌++◌, length, get_or, take, drop, refl, ap, append_assoc, arith, length-drop, length-take, take-add, below_more}
 use Rattle.std.proofs.lemmas.List.{take_more, take_at}
 use Rattle.stores.specs.Meanings.{Filled}
 use Rattle.replay.specs.Hex.{digit_of, hex_of}

@@ -1,5 +1,5 @@
 -- Two revisions of a book, and the numbers of which something became.
-use Rattle.std.proofs.Common.{◌≡◌, ℕ, zero, suc, ◌+◌, ◌-◌, ◌<◌, max, true, false, cond, List, [], ◌∷◌, ◌++◌, map, length, get_or, take, Some, None, Ok, Err, Option, sym, refl, ap, ◌∙◌, append_assoc, append-nil, arith}
+use Rattle.std.proofs.Common.{◌≡◌, ℕ, suc, ◌+◌, ◌-◌, ◌<◌, max, true, false, cond, List, [], ◌∷◌, ◌++◌, length, get_or, take, Some, None, Ok, Err, Option, sym, refl, ap, ◌∙◌, append_assoc, append-nil, arith}
 use Rattle.std.proofs.lemmas.List.{take_more}
 use Rattle.faults.specs.declared.fault.Fault.{Fault}
 use Rattle.faults.specs.declared.reason.Reason.TheVariants.{NoRevision}
@@ -12,7 +12,7 @@ use Rattle.format.specs.Chain.{Answer, also}
 use Rattle.format.specs.Questions as format
 use Rattle.format.specs.Questions.{is_shut, ask_history, ask_revision, ask_list, listing_of}
 use Rattle.format.specs.Revisions.{Revision}
-use Rattle.format.specs.Updates.{Objects, objects_of}
+use Rattle.format.specs.Updates.{objects_of}
 use Rattle.book.specs.Differences.{difference, ask_differ}
 use Rattle.book.specs.declared.book.compare.Difference.{Difference}
 use Rattle.reports.specs.declared.differences.Change.{Change}

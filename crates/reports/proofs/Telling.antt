@@ -1,19 +1,17 @@
 -- The differences have what became of every number.
-use Rattle.std.proofs.Common.{◌≡◌, ℕ, zero, suc, ◌+◌, ◌<◌, ◌≤◌, max, Bool, true, false, eqb, List, [], ◌∷◌, length, Some, None, Option, sym, refl, ap, ◌∙◌, ⊎_elim, arith}
+use Rattle.std.proofs.Common.{◌≡◌, ℕ, zero, suc, ◌+◌, ◌<◌, ◌≤◌, max, true, false, List, [], ◌∷◌, length, Some, None, Option, sym, refl, ap, ◌∙◌, ⊎_elim, arith}
 use Rattle.std.proofs.lemmas.Bool.{cases_lt, cases_eq, eq-eqb, ne_eqb}
-use Rattle.locality.proofs.Cases.{cases_o}
 use Rattle.chains.proofs.Openings.{history_opened}
 use Rattle.chains.proofs.Steps.{by_answer}
 use Rattle.tables.proofs.Applied.{shown_length}
 use Rattle.tables.proofs.SoundTables.{opened_sound}
-use Rattle.format.specs.Book.{Moment, revision_at, history, history_in}
-use Rattle.format.specs.Questions.{ask_revision}
+use Rattle.format.specs.Book.{revision_at, history, history_in}
 use Rattle.format.specs.Revisions.{Revision, opens, find, nth}
 use Rattle.format.specs.Updates.{Objects, Shown, objects_of}
 use Rattle.book.specs.Differences.{used, became, difference}
 use Rattle.book.specs.declared.book.compare.Difference.{Difference}
 use Rattle.reports.specs.Differences.{listing, differing, differences}
-use Rattle.reports.specs.Told.{Ascends, Whole, Tell, DifferencesTell, RevisionsAreWhole}
+use Rattle.reports.specs.Told.{Ascends, DifferencesTell, RevisionsAreWhole}
 use Rattle.reports.proofs.Between.{seen}
 
 -- a number that a row has, and one that it has not

@@ -1,5 +1,5 @@
 -- Numbers in short.
-use Rattle.std.specs.Prelude.{◌≡◌, ℕ, zero, suc, ◌+◌, ◌-◌, true, false, List, [], ◌∷◌, ◌++◌, ◌==◌}
+use Rattle.std.specs.Prelude.{ℕ, zero, suc, ◌+◌, ◌-◌, true, false, List, [], ◌∷◌, ◌==◌}
 use Rattle.reports.specs.declared.runs.Run.{Run}
 
 abbrev pub run : ℕ → ℕ → Run

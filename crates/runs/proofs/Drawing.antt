@@ -1,5 +1,5 @@
 -- A revision that is drawn out opens alone, and is then what it was in the file.
-use Rattle.std.proofs.Common.{◌≡◌, ℕ, ◌≤◌, Bool, true, false, leb, List, [], ◌∷◌, length, take, is_some, Some, None, Ok, Err, Option, sym, refl, ap, ◌∙◌, subst, arith, length-take-le}
+use Rattle.std.proofs.Common.{◌≡◌, ℕ, ◌≤◌, Bool, true, false, List, length, take, is_some, Some, None, Ok, Err, Option, sym, refl, ap, ◌∙◌, arith, length-take-le}
 use Rattle.faults.specs.declared.fault.Fault.{Fault}
 use Rattle.faults.specs.declared.reason.Reason.TheVariants.{BookShut, NoRevision}
 use Rattle.faults.specs.Faults.{refused}
@@ -7,7 +7,7 @@ use Rattle.format.specs.Book.{standing, Moment, history_in, history, revision_at
 use Rattle.format.specs.Bytes.{Bytes}
 use Rattle.format.specs.Chain.{Answer, also, must}
 use Rattle.format.specs.Law.{shut_over}
-use Rattle.format.specs.Questions.{is_shut, ask_history, ask_revision, ask_count, ask_list, ask_fetch, ask_draw, listing_of, shown_object}
+use Rattle.format.specs.Questions.{is_shut, ask_history, ask_revision, ask_count, ask_list, ask_fetch, ask_draw, listing_of}
 use Rattle.format.specs.Revisions.{Revision, Opened, opens}
 use Rattle.keeping.specs.Delivering.{up_to}
 use Rattle.laws.proofs.Files.{history_is, at_take, at_within}

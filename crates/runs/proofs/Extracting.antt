@@ -3,7 +3,6 @@ use Rattle.std.proofs.Common.{◌≡◌, ℕ, ◌≤◌, List, [], ◌∷◌, �
 use Rattle.faults.specs.declared.fault.Fault.{Fault}
 use Rattle.stores.specs.Meanings.{Meaning}
 use Rattle.format.specs.Book.{shut, Moment, open_file, bytes_after, Step}
-use Rattle.format.specs.Bytes.{Bytes}
 use Rattle.format.specs.Chain.{Answer}
 use Rattle.format.specs.Law.{shut_over}
 use Rattle.book.specs.declared.book.Book.{Book}

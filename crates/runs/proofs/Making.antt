@@ -1,5 +1,5 @@
 -- A call that the book performed, with the slip that is held then.
-use Rattle.std.proofs.Common.{◌≡◌, ℕ, Bool, true, false, not, Ok, sym, refl, ap, ◌∙◌, subst}
+use Rattle.std.proofs.Common.{◌≡◌, ℕ, Bool, true, false, not, Ok, sym, ap, ◌∙◌, subst}
 use Rattle.stores.specs.Meanings.{Meaning}
 use Rattle.format.specs.Book.{Moment, Call, open_file, begin, put, remove, commit, abandon, back, Step, spent_after}
 use Rattle.format.specs.Bytes.{Bytes}

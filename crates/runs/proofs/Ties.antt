@@ -1,8 +1,8 @@
 -- The slip that is held is owed exactly while an update is open, whatever call is made.
-use Rattle.std.proofs.Common.{◌≡◌, ℕ, Bool, true, false, not, Ok, Err, sym, refl, ap, ◌∙◌, subst, arith}
+use Rattle.std.proofs.Common.{◌≡◌, ℕ, Bool, true, false, not, Ok, Err, sym, refl, ap, ◌∙◌, arith}
 use Rattle.faults.specs.declared.fault.Fault.{Fault}
 use Rattle.stores.specs.Meanings.{Meaning}
-use Rattle.format.specs.Book.{Phase, shut, standing, updating, Moment, Call, open_file, begin, put, remove, commit, abandon, back, decide, phase_after, bytes_after, SpaceAfter, Leaves, Step, spent_after}
+use Rattle.format.specs.Book.{Phase, shut, standing, updating, Moment, Call, open_file, begin, put, remove, commit, abandon, back, decide, phase_after, bytes_after, SpaceAfter, Step, spent_after}
 use Rattle.format.specs.Bytes.{Bytes}
 use Rattle.format.specs.Chain.{Answer}
 use Rattle.laws.proofs.Held.{never}

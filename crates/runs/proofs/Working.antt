@@ -1,12 +1,10 @@
 -- Lists of calls as runs, from the first call on.
-use Rattle.std.proofs.Common.{◌≡◌, ℕ, ◌+◌, ◌<◌, Bool, true, false, not, List, [], ◌∷◌, ◌++◌, map, length, get_or, Ok, Err, vec_items, sym, refl, ap, ◌∙◌, subst, arith, length-append}
+use Rattle.std.proofs.Common.{◌≡◌, ℕ, ◌+◌, ◌<◌, true, not, List, [], ◌∷◌, ◌++◌, map, length, get_or, Ok, Err, vec_items, sym, refl, ap, ◌∙◌, subst, arith, length-append}
 use Rattle.std.proofs.lemmas.List.{length-map, get_or-map}
 use Rattle.faults.specs.declared.fault.Fault.{Fault}
 use Rattle.stores.specs.Meanings.{Meaning}
-use Rattle.format.specs.Account.{Event}
 use Rattle.format.specs.Book as format
 use Rattle.format.specs.Book.{shut, Moment, open_file, decide, decide_open, Step}
-use Rattle.format.specs.Bytes.{Bytes}
 use Rattle.format.specs.Chain.{Answer}
 use Rattle.format.specs.Law.{Run, shut_over, RunFrom}
 use Rattle.format.specs.Revisions.{Opened, opens}
@@ -17,7 +15,7 @@ use Rattle.keeping.proofs.Runs.{events_grow, runs_grow}
 use Rattle.book.specs.declared.book.Book.{Book}
 use Rattle.book.specs.declared.call.Call.{Call}
 use Rattle.book.specs.declared.slip.Slip.{Slip}
-use Rattle.book.specs.Books.{Performs, Sound, moment_of, store_in}
+use Rattle.book.specs.Books.{Performs, moment_of, store_in}
 use Rattle.book.specs.Calls.{call_of}
 use Rattle.book.specs.Slips.{is_spent}
 use Rattle.runs.specs.declared.outcome.Work.{Work}

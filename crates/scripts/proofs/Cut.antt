@@ -1,9 +1,8 @@
 -- Bytes cut at their first LF.
-use Rattle.std.proofs.Common.{◌≡◌, ℕ, suc, ◌+◌, ◌-◌, ◌<◌, ◌≤◌, true, false, eqb, List, [], ◌∷◌, ◌++◌, length, get_or, take, drop, sym, refl, ap, ◌∙◌, inl, inr, arith}
-use Rattle.std.proofs.lemmas.List.{take-append-drop, take_more, take_all, take_rest, drop_more, drop_all, drop-drop, get_or-take, length-drop, length-take-le}
+use Rattle.std.proofs.Common.{◌≡◌, ℕ, suc, ◌+◌, ◌-◌, ◌<◌, ◌≤◌, List, [], ◌∷◌, ◌++◌, length, get_or, take, drop, sym, refl, ap, ◌∙◌, inl, inr, arith}
+use Rattle.std.proofs.lemmas.List.{take-append-drop, take_more, take_all, drop_more, drop_all, drop-drop, get_or-take, length-drop, length-take-le}
 use Rattle.std.proofs.lemmas.Bool.{ne_eqb}
 use Rattle.format.specs.Bytes.{Bytes}
-use Rattle.scripts.specs.declared.line.Line.{Line}
 use Rattle.scripts.specs.Lines.{on_first, lines_of}
 use Rattle.scripts.specs.Walks.{part, LineAt}
 

@@ -1,20 +1,20 @@
 -- A script that was printed of an update is read as that update.
-use Rattle.std.proofs.Common.{◌≡◌, ℕ, suc, ◌+◌, ◌^◌, ◌<◌, ◌≤◌, Bool, true, false, eqb, ltb, List, [], ◌∷◌, ◌++◌, length, is_some, Some, None, Ok, codes, Result, sym, refl, ap, ◌∙◌, append_assoc, append-nil, arith}
+use Rattle.std.proofs.Common.{◌≡◌, ℕ, suc, ◌^◌, ◌<◌, ◌≤◌, true, false, eqb, ltb, List, [], ◌∷◌, ◌++◌, is_some, Some, None, Ok, codes, Result, sym, refl, ap, ◌∙◌, append_assoc, append-nil, arith}
 use Rattle.std.proofs.lemmas.Bool.{ne_eqb, le-ltb}
 use Rattle.format.specs.Acceptable.{Ascends}
-use Rattle.format.specs.Bytes.{Bytes, every, is_digit}
+use Rattle.format.specs.Bytes.{Bytes, every}
 use Rattle.format.specs.Frames.{behind}
-use Rattle.format.specs.Lines.{took, digits}
+use Rattle.format.specs.Lines.{digits}
 use Rattle.format.specs.Revisions.{find}
 use Rattle.format.specs.Sections.{begins_digit}
 use Rattle.format.specs.Updates.{Change, body, removed, Update, with_change}
 use Rattle.format.specs.Writing.{decimal}
-use Rattle.sections.proofs.Digits.{spells, digits_taken, every_++}
+use Rattle.sections.proofs.Digits.{spells, digits_taken}
 use Rattle.scripts.specs.declared.error.ScriptError.{ScriptError}
 use Rattle.scripts.specs.declared.line.Head.TheVariants.{Remove, Put}
 use Rattle.scripts.specs.Dots.{dotted}
 use Rattle.scripts.specs.Lines.{lines_of, whole, number_of, putting, removing, remove_of, put_of, head_of}
-use Rattle.scripts.specs.Scripts.{Item, change, between, inside, items_of, said_by, gathered, read_script, change_bytes, print_script}
+use Rattle.scripts.specs.Scripts.{Item, change, between, items_of, said_by, gathered, read_script, change_bytes, print_script}
 use Rattle.scripts.specs.Theorems.{Spellable, PrintedReadsBack}
 use Rattle.scripts.proofs.Cut.{lines_cut}
 use Rattle.scripts.proofs.Plain.{is_plain, plain_unbroken, digits_plain}

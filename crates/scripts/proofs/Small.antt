@@ -1,15 +1,14 @@
 -- Numbers that a script names have at most ten digits.
-use Rattle.std.proofs.Common.{◌≡◌, ℕ, suc, ◌+◌, ◌-◌, ◌*◌, ◌^◌, ◌<◌, ◌≤◌, Bool, true, false, eqb, leb, [], ◌∷◌, length, Some, None, codes, Option, sym, refl, ap, ◌∙◌, arith, lit<}
+use Rattle.std.proofs.Common.{◌≡◌, ℕ, suc, ◌+◌, ◌-◌, ◌*◌, ◌^◌, ◌<◌, ◌≤◌, true, eqb, leb, [], ◌∷◌, length, Some, None, codes, Option, refl, arith, lit<}
 use native.Mathlib.Nat.{pow-le-pow_right}
 use Rattle.std.proofs.lemmas.Bool.{leb-true}
 use Rattle.format.specs.Bytes.{Bytes, is_digit, span, every, value, value_on}
 use Rattle.format.specs.Frames.{behind}
-use Rattle.format.specs.Lines.{Piece, took, short, misfit, is_empty, counted, digits}
-use Rattle.locality.proofs.Cases.{cases, cases_o}
+use Rattle.format.specs.Lines.{took, is_empty, counted, digits}
+use Rattle.locality.proofs.Cases.{cases}
 use Rattle.locality.proofs.Tests.{clash, and_left, and_right}
 use Rattle.opening.proofs.Digits.{grows}
 use Rattle.scripts.specs.declared.line.Head.{Head}
-use Rattle.scripts.specs.declared.line.Head.TheVariants.{Nothing, Remove, Put, Wrong}
 use Rattle.scripts.specs.Lines.{whole, number_of, putting, removing, remove_of, put_of, head_of}
 use Rattle.scripts.specs.Walks.{SmallHead}
 

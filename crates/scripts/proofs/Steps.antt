@@ -1,8 +1,8 @@
 -- One line more: what a script says from a place on, by the line that starts there.
-use Rattle.std.proofs.Common.{◌≡◌, ℕ, suc, ◌+◌, ◌-◌, ◌<◌, ◌≤◌, true, false, List, [], ◌∷◌, ◌++◌, length, take, drop, sym, refl, ap, ◌∙◌, inl, inr, ⊎_elim, add-one, arith, take-add}
+use Rattle.std.proofs.Common.{◌≡◌, ℕ, suc, ◌+◌, ◌-◌, ◌≤◌, List, [], ◌∷◌, ◌++◌, length, take, drop, sym, refl, ap, ◌∙◌, ⊎_elim, add-one, arith, take-add}
 use Rattle.std.proofs.lemmas.List.{drop-drop, drop_all, take-take, length-take-le, length-drop}
 use Rattle.format.specs.Bytes.{Bytes}
-use Rattle.format.specs.Updates.{body, removed}
+use Rattle.format.specs.Updates.{body}
 use Rattle.scripts.specs.declared.error.Mistake.TheVariants.{SingleDot, NoEnd}
 use Rattle.scripts.specs.declared.line.BodyLine.TheVariants.{Text, End, Dot}
 use Rattle.scripts.specs.declared.line.Head.{Head}
@@ -11,7 +11,7 @@ use Rattle.scripts.specs.declared.line.Line.{Line}
 use Rattle.scripts.specs.Dots.{undotted, without_last}
 use Rattle.scripts.specs.Errors.{wrong_at}
 use Rattle.scripts.specs.Lines.{lines_of, head_of, body_line_of}
-use Rattle.scripts.specs.Scripts.{Item, change, stop, Where, between, inside, items_of}
+use Rattle.scripts.specs.Scripts.{Item, change, stop, between, inside, items_of}
 use Rattle.scripts.specs.Walks.{part, LineAt, said, head_said}
 
 -- a line that says nothing

@@ -1,5 +1,5 @@
 -- A body that was printed is read again.
-use Rattle.std.proofs.Common.{◌≡◌, ℕ, suc, ◌+◌, ◌-◌, ◌<◌, Bool, true, false, ◌&&◌, eqb, List, [], ◌∷◌, ◌++◌, length, take, sym, refl, ap, ◌∙◌, append_assoc, append-nil, arith, length-append}
+use Rattle.std.proofs.Common.{◌≡◌, ℕ, suc, ◌-◌, Bool, true, false, ◌&&◌, eqb, [], ◌∷◌, ◌++◌, length, sym, refl, ap, ◌∙◌, append_assoc, append-nil, arith, length-append}
 use Rattle.std.proofs.lemmas.List.{take_at}
 use Rattle.std.proofs.lemmas.Bool.{eqb-true, eqb-false, ne_eqb, and_parts}
 use Rattle.format.specs.Bytes.{Bytes, every}
@@ -7,10 +7,10 @@ use Rattle.format.specs.Lines.{is_empty}
 use Rattle.format.specs.Updates.{body}
 use Rattle.locality.proofs.Cases.{cases}
 use Rattle.sections.proofs.Digits.{every_++}
-use Rattle.scripts.specs.declared.line.BodyLine.TheVariants.{Text, End}
+use Rattle.scripts.specs.declared.line.BodyLine.TheVariants.{Text}
 use Rattle.scripts.specs.Dots.{each_byte, with_dot, without_dot, dotted, undotted, without_last}
 use Rattle.scripts.specs.Lines.{lines_of, body_line_of, after_dot}
-use Rattle.scripts.specs.Scripts.{Item, change, between, inside, items_of}
+use Rattle.scripts.specs.Scripts.{change, between, inside, items_of}
 use Rattle.scripts.proofs.Cut.{lines_cut}
 use Rattle.scripts.proofs.Plain.{is_plain, plain_unbroken}
 use Rattle.scripts.proofs.Steps.{text_said, end_said}

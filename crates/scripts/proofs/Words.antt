@@ -1,11 +1,11 @@
 -- Words, numbers and dots at the start of a line.
-use Rattle.std.proofs.Common.{◌≡◌, ℕ, suc, ◌+◌, ◌<◌, ◌≤◌, Bool, true, false, eqb, List, [], ◌∷◌, ◌++◌, length, get_or, drop, Some, None, codes, Option, sym, refl, ap, ◌∙◌, arith, Bor, MatchOption}
+use Rattle.std.proofs.Common.{◌≡◌, ℕ, ◌<◌, ◌≤◌, eqb, [], ◌∷◌, ◌++◌, length, get_or, drop, Some, None, codes, Option, sym, refl, ap, ◌∙◌, arith, Bor, MatchOption}
 use Rattle.std.proofs.lemmas.List.{at_drop_all, at_drop_more}
 use Rattle.std.proofs.lemmas.Bool.{eq-eqb, ne_eqb, eqb-true}
 use Rattle.std.specs.Option.{option_map}
 use Rattle.format.specs.Bytes.{Bytes}
 use Rattle.format.specs.Frames.{behind}
-use Rattle.format.specs.Lines.{Piece, took, short, misfit, digits}
+use Rattle.format.specs.Lines.{took, digits}
 use Rattle.locality.proofs.Cases.{cases, cases_o}
 use Rattle.locality.proofs.Tests.{clash, equal}
 use Rattle.opening.specs.declared.part.Lack.{Lack}

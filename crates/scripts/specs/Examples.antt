@@ -1,6 +1,5 @@
 -- What the definitions make of small scripts.
 use Rattle.std.specs.Prelude.{◌≡◌, [], ◌∷◌, Ok, Err, codes}
-use Rattle.format.specs.Bytes.{Bytes}
 use Rattle.format.specs.Updates.{body, removed, Update}
 use Rattle.scripts.specs.declared.error.Mistake.TheVariants.{NoChange, BadNumber, NumberAgain, SingleDot, NoEnd}
 use Rattle.scripts.specs.Errors.{wrong_at}

@@ -6,7 +6,6 @@ use Rattle.format.specs.Updates.{Update, with_change}
 use Rattle.scripts.specs.declared.error.Mistake.TheVariants.{NumberAgain}
 use Rattle.scripts.specs.declared.error.ReadError.{ReadError}
 use Rattle.scripts.specs.declared.error.ReadError.TheVariants.{NoMemory, Wrong}
-use Rattle.scripts.specs.declared.error.ScriptError.{ScriptError}
 use Rattle.scripts.specs.declared.found.Found.{Found}
 use Rattle.scripts.specs.declared.reader.Reader.{Reader}
 use Rattle.scripts.specs.declared.script.Script.{Script}

@@ -1,5 +1,5 @@
 -- A tail is read where it stands.
-use Rattle.std.proofs.Common.{◌≡◌, ℕ, ◌+◌, ◌^◌, ◌<◌, false, [], ◌++◌, length, codes, refl, ◌∙◌, arith}
+use Rattle.std.proofs.Common.{◌≡◌, ℕ, ◌+◌, ◌^◌, ◌<◌, false, ◌++◌, length, codes, refl, ◌∙◌, arith}
 use Rattle.format.specs.Bytes.{Bytes, Got, ok}
 use Rattle.format.specs.Lines.{placed}
 use Rattle.format.specs.Sections.{tail}

@@ -1,5 +1,5 @@
 -- Ways of a test.
-use Rattle.std.proofs.Common.{◌≡◌, ℕ, Bool, true, false, refl, arith}
+use Rattle.std.proofs.Common.{◌≡◌, ℕ, Bool, true, false, arith}
 
 -- no test goes both ways
 pub clash : {P : Type 0} {b : Bool} → b ≡ true → b ≡ false → P

@@ -3,7 +3,6 @@ use Rattle.std.proofs.Common.{sym, ◌∙◌}
 use Rattle.format.specs.Bytes.{ok}
 use Rattle.locality.proofs.LocalTrailers.{trailer_local}
 use Rattle.sections.specs.OwnBytes.{TrailersAreLocal}
-use Rattle.sections.specs.Reading.{Local}
 
 -- from the same place
 pub trailers_local : TrailersAreLocal

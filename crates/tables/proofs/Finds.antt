@@ -1,5 +1,5 @@
 -- Places of lists, and the rows of numbers. Assumes nothing.
-use Rattle.std.proofs.Common.{◌≡◌, ℕ, zero, suc, ◌<◌, ◌≤◌, Bool, true, false, List, [], ◌∷◌, ◌++◌, length, drop, set, Some, None, Option, sym, refl, ap, arith, eq-eqb, ne_eqb}
+use Rattle.std.proofs.Common.{◌≡◌, ℕ, zero, suc, ◌<◌, ◌≤◌, true, false, List, [], ◌∷◌, ◌++◌, length, drop, set, Some, None, Option, sym, refl, ap, arith, eq-eqb, ne_eqb}
 use Rattle.format.specs.Revisions.{find, nth}
 
 -- nothing is both found and not found

@@ -1,5 +1,5 @@
 -- The entries of the previous trailer, one by one.
-use Rattle.std.proofs.Common.{◌≡◌, ℕ, suc, ◌+◌, ◌-◌, ◌*◌, ◌<◌, ◌≤◌, Bool, true, false, [], ◌∷◌, ◌++◌, length, take, drop, Some, None, codes, sym, refl, ap, ◌∙◌, subst, append_assoc, append-nil, add-one, arith}
+use Rattle.std.proofs.Common.{◌≡◌, ℕ, ◌+◌, ◌-◌, ◌*◌, ◌≤◌, Bool, true, false, [], ◌++◌, length, take, drop, Some, None, codes, sym, refl, ap, ◌∙◌, subst, append_assoc, append-nil, add-one, arith}
 use Rattle.std.proofs.lemmas.List.Edits.{length-between}
 use Rattle.entries.specs.Cells.{part}
 use Rattle.format.specs.Bytes.{Bytes, same}
@@ -13,9 +13,9 @@ use Rattle.objects.specs.declared.shape.Entry.{Entry}
 use Rattle.objects.specs.EntryByEntry.{EntryStands, EntriesFrom}
 use Rattle.objects.specs.Nexts.{entry_in}
 use Rattle.writer.specs.declared.draft.Draft.{Draft}
-use Rattle.writer.specs.Drafts.{Adds, written, count, limit_of}
+use Rattle.writer.specs.Drafts.{Adds, written, limit_of}
 use Rattle.writer.specs.Pieces.{pair_bytes}
-use Rattle.writer.specs.Trailers.{ReadAs, Readable, Lies, copy_of}
+use Rattle.writer.specs.Trailers.{ReadAs, Lies, copy_of}
 use Rattle.writer.proofs.Lengths.{pair_length}
 use Rattle.writer.proofs.Pieces.{copied_parts}
 use Rattle.writer.proofs.Written.{adds_from}

@@ -1,10 +1,10 @@
 -- Digits one by one from the last, and how many there are.
-use Rattle.std.proofs.Common.{◌≡◌, ℕ, zero, suc, ◌+◌, ◌-◌, ◌*◌, ◌/◌, ◌%◌, ◌^◌, ◌<◌, ◌≤◌, Bool, true, false, ltb, [], ◌∷◌, ◌++◌, length, sym, refl, ap, ◌∙◌, append_assoc, pow-suc, arith, length-append}
+use Rattle.std.proofs.Common.{◌≡◌, ℕ, zero, suc, ◌+◌, ◌-◌, ◌*◌, ◌/◌, ◌%◌, ◌^◌, ◌<◌, ◌≤◌, true, ltb, [], ◌∷◌, ◌++◌, length, sym, refl, ap, ◌∙◌, pow-suc, arith, length-append}
 use Rattle.std.proofs.lemmas.Bool.{lt-ltb, le-ltb}
 use Rattle.format.specs.Bytes.{Bytes}
 use Rattle.format.specs.Writing.{padded, decimal, decimal_on}
 use Rattle.locality.proofs.Cases.{cases}
-use Rattle.sections.proofs.Digits.{padded_++, padded_length, spells}
+use Rattle.sections.proofs.Digits.{padded_++, spells}
 
 below_ten : (n : ℕ) → n < 10 → ltb n 10 ≡ true
 below_ten n h = lt-ltb n 10 h

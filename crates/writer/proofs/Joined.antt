@@ -1,8 +1,8 @@
 -- One append behind another.
-use Rattle.std.proofs.Common.{◌≡◌, ℕ, ◌+◌, [], ◌++◌, length, sym, refl, ap, ◌∙◌, append_assoc, append-nil, arith, length-append}
+use Rattle.std.proofs.Common.{◌≡◌, [], ◌++◌, sym, refl, ap, ◌∙◌, append_assoc, append-nil, arith, length-append}
 use Rattle.format.specs.Bytes.{Bytes}
 use Rattle.writer.specs.declared.draft.Draft.{Draft}
-use Rattle.writer.specs.Drafts.{Adds, written, count}
+use Rattle.writer.specs.Drafts.{Adds, written}
 
 -- nothing appended
 pub adds_none : (a : Draft) → Adds a [] a

@@ -2,7 +2,7 @@
 use Rattle.std.proofs.Common.{◌≡◌, ℕ, suc, ◌+◌, ◌*◌, ◌^◌, ◌<◌, ◌≤◌, List, [], ◌∷◌, ◌++◌, length, Some, codes, refl, ap, ◌∙◌, arith, length-append}
 use Rattle.format.specs.Bytes.{Bytes}
 use Rattle.format.specs.Lines.{Slot}
-use Rattle.format.specs.Writing.{decimal, framed_bytes, prev_bytes, Run, run_on, slots_on}
+use Rattle.format.specs.Writing.{decimal, framed_bytes, prev_bytes, run_on, slots_on}
 use Rattle.locality.proofs.Written.{framed_length}
 use Rattle.sections.proofs.Entries.{slots_on_length}
 use Rattle.entries.specs.declared.entry.Entry.{Entry}

@@ -1,8 +1,8 @@
 -- How the pieces of a section hang together.
-use Rattle.std.proofs.Common.{◌≡◌, ℕ, zero, suc, ◌+◌, ◌<◌, Bool, true, false, cond, List, [], ◌∷◌, ◌++◌, map, length, get_or, take, codes, sym, refl, ap, ◌∙◌, append_assoc, append-nil, add-one, arith}
+use Rattle.std.proofs.Common.{◌≡◌, ℕ, zero, suc, ◌+◌, ◌<◌, Bool, true, false, cond, List, [], ◌∷◌, ◌++◌, length, get_or, take, codes, sym, refl, ap, ◌∙◌, append_assoc, append-nil, add-one, arith}
 use Rattle.format.specs.Bytes.{Bytes}
 use Rattle.format.specs.Lines.{Slot}
-use Rattle.format.specs.Writing.{decimal, padded, framed_bytes, mark_of, slot_bytes, slots_on, Run, run_on, runs_on, is_rewritten, copied, prev_bytes, section_bytes}
+use Rattle.format.specs.Writing.{decimal, padded, framed_bytes, mark_of, slot_bytes, slots_on, run_on, runs_on, copied, prev_bytes, section_bytes}
 use Rattle.sections.proofs.Digits.{padded_++}
 use Rattle.sections.proofs.Entries.{runs_on_++}
 use Rattle.entries.specs.declared.entry.Entry.{Entry}

@@ -1,20 +1,19 @@
 -- What is planned of a number.
-use Rattle.std.proofs.Common.{◌≡◌, ℕ, zero, suc, ◌+◌, ◌^◌, ◌<◌, ◌≤◌, List, [], ◌∷◌, map, length, Some, None, Option, sym, refl, ap, ◌∙◌, arith}
+use Rattle.std.proofs.Common.{◌≡◌, ℕ, zero, suc, ◌+◌, ◌^◌, ◌<◌, ◌≤◌, List, [], ◌∷◌, length, Some, None, Option, sym, refl, ap, ◌∙◌, arith}
 use Rattle.std.specs.Option.{option_map}
 use Rattle.entries.specs.declared.cell.Cell.{Cell}
 use Rattle.entries.specs.declared.cell.Cell.TheVariants.{Used, Free}
 use Rattle.entries.specs.Cells.{part, state_in, states_in}
 use Rattle.format.specs.Bytes.{Bytes}
-use Rattle.format.specs.Revisions.{State, used, free, nth}
+use Rattle.format.specs.Revisions.{State, nth}
 use Rattle.format.specs.Updates.{Change, body, removed}
 use Rattle.format.specs.Writing.{entry_gen, cell, cell_bytes}
 use Rattle.writer.specs.declared.change.Content.{Content}
 use Rattle.writer.specs.declared.change.Content.TheVariants.{Body, Removed}
-use Rattle.writer.specs.declared.plan.Planned.{Planned}
-use Rattle.writer.specs.declared.plan.Planned.TheVariants.{Kept, Vacant, Wrote, Freed}
+use Rattle.writer.specs.declared.plan.Planned.TheVariants.{Wrote, Freed}
 use Rattle.writer.specs.Changes.{content_in}
 use Rattle.writer.specs.Planned.{planned_of}
-use Rattle.writer.specs.Plans.{generation_in, GenerationsFit, change_bytes, room_for}
+use Rattle.writer.specs.Plans.{GenerationsFit, change_bytes, room_for}
 use Rattle.writer.proofs.Lengths.{framed_at_most}
 use Rattle.writer.proofs.Tables.{nth_map}
 

@@ -1,14 +1,13 @@
 -- Runs that are written one behind the other.
-use Rattle.std.proofs.Common.{◌≡◌, ℕ, suc, ◌+◌, ◌-◌, ◌*◌, ◌^◌, ◌<◌, ◌≤◌, List, [], ◌∷◌, ◌++◌, map, length, drop, Some, None, Option, sym, refl, ap, ◌∙◌, append_assoc, append-nil, arith, length-drop}
+use Rattle.std.proofs.Common.{◌≡◌, ℕ, suc, ◌+◌, ◌-◌, ◌<◌, ◌≤◌, List, [], ◌∷◌, ◌++◌, map, length, drop, Some, None, Option, sym, refl, ap, ◌∙◌, append_assoc, append-nil, arith, length-drop}
 use lib.ListN.{length-map}
-use Rattle.format.specs.Bytes.{Bytes}
 use Rattle.format.specs.Lines.{Slot}
 use Rattle.format.specs.Writing as format
 use Rattle.format.specs.Writing.{entries_for, slot_bytes, slots_on, Run, run_on, runs, runs_on}
 use Rattle.writer.specs.declared.draft.Draft.{Draft}
 use Rattle.writer.specs.declared.plan.Planned.{Planned}
-use Rattle.writer.specs.Drafts.{Adds, written, count, limit_of}
-use Rattle.writer.specs.Listing.{listed_from, listed_at, front, RunsTo}
+use Rattle.writer.specs.Drafts.{Adds, written, limit_of}
+use Rattle.writer.specs.Listing.{listed_at, front, RunsTo}
 use Rattle.writer.specs.Planned.{cell_of}
 use Rattle.writer.proofs.Lengths.{run_at_most}
 use Rattle.writer.proofs.Listing.{run_at, run_none, run_over}

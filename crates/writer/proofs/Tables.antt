@@ -1,12 +1,12 @@
 -- What a table says of a number.
-use Rattle.std.proofs.Common.{◌≡◌, ℕ, zero, suc, ◌+◌, ◌<◌, ◌≤◌, Bool, true, false, not, ◌&&◌, ltb, leb, List, [], ◌∷◌, map, length, get_or, is_some, Some, None, Option, sym, refl, ap, ◌∙◌, arith}
+use Rattle.std.proofs.Common.{◌≡◌, ℕ, zero, suc, ◌+◌, ◌<◌, ◌≤◌, Bool, true, false, not, leb, List, [], ◌∷◌, map, length, get_or, is_some, Some, None, Option, sym, refl, ap, ◌∙◌, arith}
 use Rattle.std.specs.Option.{option_map}
 use Rattle.std.proofs.lemmas.Bool.{lt-leb, le-leb}
 use Rattle.entries.specs.declared.cell.Cell.{Cell}
-use Rattle.entries.specs.Cells.{state_in, states_in}
-use Rattle.format.specs.Book.{is_worn_out, is_used, may_put}
+use Rattle.entries.specs.Cells.{state_in}
+use Rattle.format.specs.Book.{is_worn_out, may_put}
 use Rattle.format.specs.Bytes.{Bytes}
-use Rattle.format.specs.Revisions.{Revision, State, nth}
+use Rattle.format.specs.Revisions.{Revision, nth}
 use Rattle.format.specs.Updates.{Update, new_numbers}
 use Rattle.format.specs.Writing.{new_size}
 use Rattle.writer.specs.Tables.{TableOf}

@@ -1,7 +1,6 @@
 -- The bytes of a whole update.
 use Rattle.std.proofs.Common.{◌≡◌, ℕ, zero, suc, ◌+◌, List, [], ◌∷◌, ◌++◌, map, length, Some, sym, refl, ap, ◌∙◌}
 use Rattle.entries.specs.declared.cell.Cell.{Cell}
-use Rattle.entries.specs.Cells.{states_in}
 use Rattle.format.specs.Bytes.{Bytes}
 use Rattle.format.specs.Revisions.{Revision, used, free}
 use Rattle.format.specs.Updates.{Update, new_numbers}

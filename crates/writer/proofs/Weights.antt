@@ -1,8 +1,7 @@
 -- How many bytes the objects of an update may need, from a number on.
-use Rattle.std.proofs.Common.{◌≡◌, ℕ, suc, ◌+◌, ◌*◌, ◌<◌, ◌≤◌, true, false, eqb, leb, List, [], ◌∷◌, length, Some, None, sym, refl, ap, ◌∙◌, arith}
+use Rattle.std.proofs.Common.{◌≡◌, ℕ, ◌+◌, ◌*◌, ◌≤◌, true, false, eqb, leb, [], ◌∷◌, length, Some, arith}
 use lib.ListN.{length-map}
 use Rattle.std.proofs.lemmas.Bool.{eqb-true, eqb-false, leb-true, leb-false, le-leb, lt-leb}
-use Rattle.format.specs.Book.{most_changes, most_body_bytes}
 use Rattle.format.specs.Revisions.{find}
 use Rattle.format.specs.Updates.{Change, body, removed, Update, body_length, body_bytes}
 use Rattle.locality.proofs.Cases.{cases}

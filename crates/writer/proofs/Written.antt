@@ -1,5 +1,5 @@
 -- The objects of an update, number by number.
-use Rattle.std.proofs.Common.{◌≡◌, ℕ, zero, suc, ◌+◌, ◌-◌, ◌<◌, ◌≤◌, List, [], ◌∷◌, ◌++◌, map, length, sym, refl, ap, ◌∙◌, append_assoc, append-nil, add-one, arith, length-append}
+use Rattle.std.proofs.Common.{◌≡◌, ℕ, suc, ◌+◌, ◌-◌, ◌<◌, ◌≤◌, List, [], ◌∷◌, ◌++◌, map, length, sym, refl, ap, ◌∙◌, append_assoc, append-nil, add-one, arith, length-append}
 use Rattle.entries.specs.declared.cell.Cell.{Cell}
 use Rattle.entries.specs.Cells.{states_in}
 use Rattle.format.specs.Bytes.{Bytes}
@@ -11,7 +11,7 @@ use Rattle.writer.specs.declared.draft.Draft.{Draft}
 use Rattle.writer.specs.declared.plan.Plan.{Plan}
 use Rattle.writer.specs.Drafts.{Adds, written, count, limit_of}
 use Rattle.writer.specs.Planned.{planned_of}
-use Rattle.writer.specs.Plans.{Writes, WritesAll, all_made, made_of, plan_count, rows_of}
+use Rattle.writer.specs.Plans.{Writes, WritesAll, all_made, made_of, rows_of}
 
 -- the cells from a number on: the number's own, and those behind it
 cells_step : (size n p p' : ℕ) (old : List State) (u : Update) → n < size → p' ≡ p + length (cell_bytes n (cell p (nth n old) (find n u))) →

@@ -1,5 +1,5 @@
 -- What an open update holds.
-use Rattle.std.specs.Prelude.{◌≡◌, ℕ, true, vec_items, vec_len}
+use Rattle.std.specs.Prelude.{◌≡◌, true, vec_items, vec_len}
 use Rattle.format.specs.Bytes.{Bytes}
 use Rattle.format.specs.Updates.{Update}
 use Rattle.writer.specs.declared.change.Content.{Content}

@@ -1,5 +1,5 @@
 -- The entries that an update lists, by what is planned.
-use Rattle.std.specs.Prelude.{◌≡◌, ℕ, ◌+◌, ◌-◌, ◌*◌, ◌<◌, ◌≤◌, Bool, true, false, List, [], ◌∷◌, ◌++◌, map, length, drop, Some, None, Option}
+use Rattle.std.specs.Prelude.{◌≡◌, ℕ, ◌+◌, ◌-◌, ◌*◌, ◌≤◌, Bool, true, false, List, [], ◌∷◌, ◌++◌, map, drop, Some, None, Option}
 use Rattle.format.specs.Lines.{Slot}
 use Rattle.format.specs.Writing.{entries_for, runs, runs_on}
 use Rattle.writer.specs.declared.draft.Draft.{Draft}

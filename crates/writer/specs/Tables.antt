@@ -1,5 +1,5 @@
 -- The table of a revision, as cells.
-use Rattle.std.specs.Prelude.{◌≡◌, ℕ, List, length}
+use Rattle.std.specs.Prelude.{◌≡◌, List, length}
 use Rattle.format.specs.Bytes.{Bytes}
 use Rattle.format.specs.Revisions.{Revision}
 use Rattle.entries.specs.declared.cell.Cell.{Cell}

@@ -1,5 +1,5 @@
 -- The entries of the previous trailer, copied.
-use Rattle.std.specs.Prelude.{◌≡◌, ℕ, ◌+◌, ◌-◌, ◌*◌, ◌<◌, ◌≤◌, true, false, [], length, drop}
+use Rattle.std.specs.Prelude.{◌≡◌, ℕ, ◌+◌, ◌<◌, ◌≤◌, true, false, [], length, drop}
 use Rattle.format.specs.Bytes.{Bytes, ok}
 use Rattle.format.specs.Strings.{turns}
 use Rattle.format.specs.Objects.{Entries, no_entries, entries, object_by}

@@ -1,4 +1,4 @@
-use Rattle.std.proofs.Common.{◌≡◌, ◌-◌, ◌++◌, length, drop, sym, refl, ap, ◌∙◌, arith, length-drop, length-take}
+use Rattle.std.proofs.Common.{◌≡◌, ◌-◌, ◌++◌, length, drop, refl, ap, ◌∙◌, arith, length-drop, length-take}
 use Rattle.entries.specs.Cells.{part}
 use Rattle.format.specs.Questions.{fill_start}
 use Rattle.book.proofs.copies.body_into.Goals as goal

@@ -1,4 +1,4 @@
-use Rattle.std.proofs.Common.{◌≡◌, ◌+◌, ◌-◌, ◌≤◌, length, take, drop, ap, ◌∙◌, arith}
+use Rattle.std.proofs.Common.{◌≡◌, ◌+◌, ◌-◌, ◌≤◌, take, ap, ◌∙◌, arith}
 use Rattle.book.proofs.Copied.{filled_front, joined_more}
 use Rattle.book.proofs.copies.join.Goals as goal
 

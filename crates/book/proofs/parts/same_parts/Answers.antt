@@ -1,4 +1,4 @@
-use Rattle.std.proofs.Common.{◌≡◌, ◌+◌, ◌-◌, ◌≤◌, true, false, length, take, drop, sym, refl, ap, ◌∙◌, zero-le, arith}
+use Rattle.std.proofs.Common.{◌≡◌, ◌+◌, ◌≤◌, sym, refl, ap, ◌∙◌, zero-le, arith}
 use Rattle.format.specs.Bytes.{same}
 use Rattle.book.proofs.Sames.{alike, alike_step, unlike, windows_same}
 use Rattle.book.proofs.parts.same_parts.Goals as goal

@@ -1,5 +1,4 @@
-use Rattle.std.proofs.Common.{◌≡◌, sym}
-use Rattle.format.specs.Strings.{is_hex}
+use Rattle.std.proofs.Common.{sym}
 use Rattle.lexer.proofs.HexDigits.{counts, counts_not}
 use Rattle.lexer.proofs.bytes.is_hex.Goals as goal
 

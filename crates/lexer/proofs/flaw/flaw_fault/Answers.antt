@@ -1,4 +1,4 @@
-use Rattle.std.proofs.Common.{◌≡◌, ℕ, ◌⊎◌, sym, refl, ap, ◌∙◌, inl, inr, rules}
+use Rattle.std.proofs.Common.{◌≡◌, ℕ, ◌⊎◌, ◌∙◌, inl, inr, rules}
 use Rattle.faults.specs.declared.reason.Reason.TheVariants.{BadToken}
 use Rattle.format.specs.Failures.{token_fault}
 use Rattle.format.specs.Tokens.{flaw_fault}

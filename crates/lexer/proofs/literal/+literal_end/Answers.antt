@@ -1,4 +1,4 @@
-use Rattle.std.proofs.Common.{◌≡◌, ◌+◌, ◌<◌, ◌≤◌, length, sym, ◌∙◌, arith}
+use Rattle.std.proofs.Common.{◌+◌, ◌<◌, ◌≤◌, length, sym, arith}
 use Rattle.lexer.proofs.Literals.{left_ends, left_closes, left_part, left_part_unclosed, left_part_deep, left_escape, left_escape_end, left_plain, too_deep, left_all}
 use Rattle.lexer.proofs.literal.+literal_end.Goals as goal
 

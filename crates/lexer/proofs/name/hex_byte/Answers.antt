@@ -1,4 +1,4 @@
-use Rattle.std.proofs.Common.{◌≡◌, sym, ◌∙◌, arith}
+use Rattle.std.proofs.Common.{sym, ◌∙◌, arith}
 use Rattle.lexer.proofs.HexDigits.{digit_small}
 use Rattle.lexer.proofs.Names.{byte_no_high, byte_no_low, byte_counted}
 use Rattle.lexer.proofs.name.hex_byte.Goals as goal

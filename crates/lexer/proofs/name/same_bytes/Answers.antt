@@ -1,4 +1,4 @@
-use Rattle.std.proofs.Common.{◌≡◌, ◌<◌, length, sym, refl, arith}
+use Rattle.std.proofs.Common.{◌<◌, length, arith}
 use Rattle.std.proofs.lemmas.List.{drop_more}
 use Rattle.lexer.proofs.Sames.{same_more, same_differs, left_over, right_over, bytes_end, bytes_more}
 use Rattle.lexer.proofs.name.same_bytes.Goals as goal

@@ -1,6 +1,5 @@
 use Rattle.std.proofs.Common.{◌≡◌, ◌-◌, ◌≤◌, length, drop}
 use Rattle.format.specs.Bytes.{same}
-use Rattle.lexer.specs.Spelled.{spelled}
 use Rattle.lexer.proofs.name.same_bytes.Given as goal
 
 abbrev pub invariant-both : goal.invariant-both

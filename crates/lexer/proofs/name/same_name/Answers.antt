@@ -1,4 +1,4 @@
-use Rattle.std.proofs.Common.{◌≡◌, ◌<◌, length, sym, refl, arith}
+use Rattle.std.proofs.Common.{◌<◌, length, arith}
 use Rattle.lexer.proofs.Names.{spelled_more, spelled_ends}
 use Rattle.lexer.proofs.Sames.{same_more, same_differs, left_over, right_over}
 use Rattle.lexer.proofs.name.same_name.Goals as goal

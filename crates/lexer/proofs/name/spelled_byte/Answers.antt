@@ -1,4 +1,4 @@
-use Rattle.std.proofs.Common.{◌≡◌, ◌+◌, ◌<◌, ◌≤◌, length, sym, arith}
+use Rattle.std.proofs.Common.{◌+◌, ◌<◌, ◌≤◌, length, sym, arith}
 use Rattle.lexer.proofs.Names.{spelled_at_plain, spelled_at_pair, spelled_at_wrong, spelled_at_short}
 use Rattle.lexer.proofs.name.spelled_byte.Goals as goal
 use Rattle.lexer.proofs.name.spelled_byte.Goals.{else-b-eq35-via-then-b-eq35+else-name-at-gt2, else-b-eq35-via-else-b-eq35}

@@ -1,4 +1,4 @@
-use Rattle.std.proofs.Common.{◌≡◌, ◌+◌, ◌<◌, ◌≤◌, length, sym, arith}
+use Rattle.std.proofs.Common.{◌+◌, ◌<◌, ◌≤◌, length, sym, arith}
 use Rattle.lexer.proofs.Names.{wrong_all, wrong_ends, wrong_plain, wrong_pair, wrong_here, wrong_short}
 use Rattle.lexer.proofs.name.wrong_hash.Goals as goal
 

@@ -1,4 +1,4 @@
-use Rattle.std.proofs.Common.{◌≡◌, ◌+◌, true, false, length, drop, sym, ap, ◌∙◌, arith}
+use Rattle.std.proofs.Common.{◌+◌, true, false, length, drop, ap, ◌∙◌, arith}
 use Rattle.std.proofs.lemmas.Slice.{between_to_end}
 use Rattle.lexer.specs.Numerals.{size_shown, walk}
 use Rattle.lexer.proofs.Numerals.{walk_meets, no_byte, behind_minus, behind_plus, without_sign}

@@ -1,4 +1,4 @@
-use Rattle.std.proofs.Common.{◌≡◌, ◌+◌, ◌<◌, length, sym, ap, ◌∙◌, arith}
+use Rattle.std.proofs.Common.{◌+◌, ◌<◌, length, arith}
 use Rattle.lexer.proofs.Starts.{greater_cut, greater_dict, greater_stray}
 use Rattle.lexer.proofs.reads.greater_at.Goals as goal
 

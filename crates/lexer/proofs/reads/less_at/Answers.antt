@@ -1,4 +1,4 @@
-use Rattle.std.proofs.Common.{◌≡◌, ◌+◌, ◌<◌, length, sym, ap, ◌∙◌, arith}
+use Rattle.std.proofs.Common.{◌+◌, ◌<◌, length, ◌∙◌, arith}
 use Rattle.format.specs.Tokens.{hex, bad_hex}
 use Rattle.lexer.proofs.Starts.{flawed_parts, less_cut, less_dict, less_hex, string_closed, string_unclosed, string_broken}
 use Rattle.lexer.proofs.reads.less_at.Goals as goal

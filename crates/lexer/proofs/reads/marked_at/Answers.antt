@@ -1,4 +1,4 @@
-use Rattle.std.proofs.Common.{◌≡◌, sym, ap, ◌∙◌, arith}
+use Rattle.std.proofs.Common.{arith}
 use Rattle.lexer.proofs.Starts.{reads_as, one_byte_fact, on_slash, on_bracket, on_less, on_greater, on_open, on_close, on_stray}
 use Rattle.lexer.proofs.reads.marked_at.Goals as goal
 

@@ -1,4 +1,4 @@
-use Rattle.std.proofs.Common.{◌≡◌, sym, arith}
+use Rattle.std.proofs.Common.{arith}
 use Rattle.format.specs.Bytes.{up_to}
 use Rattle.lexer.proofs.Names.{no_wrong, one_wrong}
 use Rattle.lexer.proofs.Starts.{flawed_parts, name_reads, name_flaws}

@@ -1,4 +1,3 @@
-use Rattle.std.proofs.Common.{◌≡◌, sym, arith}
 use Rattle.format.specs.Tokens.{text, stray}
 use Rattle.lexer.proofs.Starts.{flawed_parts, string_closed, string_unclosed, string_deep, string_is}
 use Rattle.lexer.proofs.reads.text_at.Goals as goal

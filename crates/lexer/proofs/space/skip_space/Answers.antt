@@ -1,5 +1,4 @@
-use Rattle.std.proofs.Common.{◌≡◌, sym, arith}
-use Rattle.std.proofs.lemmas.Bool.{not-true, not-false}
+use Rattle.std.proofs.Common.{sym, arith}
 use Rattle.lexer.proofs.Spaces.{comment_more, white_more, percent_more, space_stops, space_ends}
 use Rattle.lexer.proofs.space.skip_space.Goals as goal
 use Rattle.lexer.proofs.space.skip_space.Goals.{then-comment, else-comment+then-not-is_white+else-b-ne37, else-comment+else-not-is_white}

@@ -1,4 +1,4 @@
-use Rattle.std.proofs.Common.{◌≡◌, ◌<◌, length, drop, Some, sym, refl, ap, ◌∙◌, arith}
+use Rattle.std.proofs.Common.{◌<◌, length, drop, Some, sym, ap, ◌∙◌, arith}
 use Rattle.format.specs.Tokens.{start_at}
 use Rattle.lexer.specs.Views.{token_fault_of}
 use Rattle.lexer.proofs.Tokens.{behind_space, ends_here, as_dropped, flaw_told, took_moves, took_byte}

@@ -1,6 +1,6 @@
-use Rattle.std.proofs.Common.{◌≡◌, ◌<◌, refl, ap, ◌∙◌}
+use Rattle.std.proofs.Common.{◌<◌, ap, ◌∙◌}
 use Rattle.format.specs.Objects.{closes_array}
-use Rattle.lexer.specs.Views.{kind_of, Moves}
+use Rattle.lexer.specs.Views.{kind_of}
 use Rattle.objects.proofs.Founds.{flawed_array, found_kind, found_ends, no_array_end}
 use Rattle.objects.proofs.ahead.closing.Goals as goal
 

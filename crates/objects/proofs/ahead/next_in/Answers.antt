@@ -1,8 +1,6 @@
-use Rattle.std.proofs.Common.{◌≡◌, ◌<◌, sym, refl, ap, ◌∙◌}
-use Rattle.format.specs.Objects.{next, fails, key, closes}
-use Rattle.lexer.specs.Views.{kind_of, Moves}
-use Rattle.lexer.specs.Spelled.{spelled}
-use Rattle.objects.specs.Steps.{next_in}
+use Rattle.std.proofs.Common.{◌<◌, sym, ap, ◌∙◌}
+use Rattle.format.specs.Objects.{next, fails}
+use Rattle.lexer.specs.Views.{kind_of}
 use Rattle.objects.proofs.Founds.{flawed_next, found_from, found_ends, found_next, no_entry}
 use Rattle.objects.proofs.ahead.next_in.Goals as goal
 

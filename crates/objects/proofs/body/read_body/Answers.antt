@@ -1,4 +1,4 @@
-use Rattle.std.proofs.Common.{◌≡◌, ◌≤◌, Err, arith}
+use Rattle.std.proofs.Common.{◌≡◌, Err, arith}
 use Rattle.std.proofs.lemmas.Result.{err_from_is_err_and}
 use Rattle.objects.proofs.Cases.{further, handed_up}
 use Rattle.objects.proofs.Bodies.{body_whole, body_refused, body_array, body_dict_bad, body_dict, body_stream}

@@ -1,4 +1,4 @@
-use Rattle.std.proofs.Common.{◌≡◌, true, false, ◌||◌, eqb, get_or, sym, refl, ap, ◌∙◌}
+use Rattle.std.proofs.Common.{◌≡◌, true, false, get_or, sym}
 use Rattle.format.specs.Bytes.{is_white}
 use Rattle.objects.proofs.Bodies.{loose_none, loose_some}
 use Rattle.objects.proofs.body.starts_loose.Goals as goal

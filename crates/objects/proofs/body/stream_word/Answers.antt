@@ -1,6 +1,6 @@
-use Rattle.std.proofs.Common.{◌≡◌, ◌<◌, codes, sym, ap, ◌∙◌}
+use Rattle.std.proofs.Common.{◌<◌, codes, sym, ap, ◌∙◌}
 use Rattle.format.specs.Objects.{is_word}
-use Rattle.lexer.specs.Views.{kind_of, Moves}
+use Rattle.lexer.specs.Views.{kind_of}
 use Rattle.objects.proofs.Founds.{flawed_word, found_kind, found_from, found_ends, no_word, the_word_fact}
 use Rattle.objects.proofs.body.stream_word.Goals as goal
 

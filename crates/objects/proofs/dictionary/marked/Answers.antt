@@ -1,4 +1,4 @@
-use Rattle.std.proofs.Common.{◌≡◌, Err, ap}
+use Rattle.std.proofs.Common.{◌≡◌, Err}
 use Rattle.std.proofs.lemmas.Result.{err_from_is_err_and}
 use Rattle.objects.proofs.Dictionaries.{not_opened, not_closed, opened}
 use Rattle.objects.proofs.dictionary.marked.Goals as goal

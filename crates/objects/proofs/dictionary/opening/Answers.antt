@@ -1,6 +1,5 @@
-use Rattle.std.proofs.Common.{◌≡◌, ◌<◌, Err, ap}
+use Rattle.std.proofs.Common.{◌≡◌, ◌<◌, Err}
 use Rattle.std.proofs.lemmas.Result.{err_from_is_err_and}
-use Rattle.lexer.specs.Views.{Moves}
 use Rattle.objects.proofs.Founds.{found_from, found_ends}
 use Rattle.objects.proofs.Dictionaries.{opens, opens_end, opens_other, opens_flawed}
 use Rattle.objects.proofs.dictionary.opening.Goals as goal

@@ -1,6 +1,6 @@
-use Rattle.std.proofs.Common.{◌≡◌, Err, sym, ap, ◌∙◌}
+use Rattle.std.proofs.Common.{◌≡◌, Err, ap, ◌∙◌}
 use Rattle.std.proofs.lemmas.Result.{err_from_is_err_and}
-use Rattle.format.specs.Bytes.{Got, bad}
+use Rattle.format.specs.Bytes.{bad}
 use Rattle.objects.proofs.Frames.{frame_loose, frame_bad, frame_there, frame_refused}
 use Rattle.objects.proofs.frame.read_frame.Goals as goal
 

@@ -1,6 +1,6 @@
 use Rattle.std.proofs.lemmas.Result.{err_from_is_err_and}
-use Rattle.std.proofs.Common.{◌≡◌, ◌<◌, Err, sym, ap, ◌∙◌}
-use Rattle.lexer.specs.Views.{kind_of, Moves}
+use Rattle.std.proofs.Common.{◌≡◌, ◌<◌, Err, ap, ◌∙◌}
+use Rattle.lexer.specs.Views.{kind_of}
 use Rattle.objects.specs.Steps.{token_in}
 use Rattle.objects.proofs.Founds.{flawed_int, found_kind, found_ends, the_int_fact}
 use Rattle.objects.proofs.Frames.{int_handed, unfit_flawed, int_there, int_missing, end_int, other_int}

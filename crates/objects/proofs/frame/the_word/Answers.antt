@@ -1,9 +1,9 @@
 use Rattle.std.proofs.lemmas.Result.{err_from_is_err_and}
 use Rattle.std.proofs.Common.{◌≡◌, ◌<◌, Err, sym, ap, ◌∙◌, arith}
 use Rattle.objects.proofs.Cases.{handed_up}
-use Rattle.lexer.specs.Views.{kind_of, Moves}
+use Rattle.lexer.specs.Views.{kind_of}
 use Rattle.objects.specs.Steps.{token_in}
-use Rattle.objects.proofs.Founds.{flawed_word, found_kind, found_ends, no_word, the_word_fact}
+use Rattle.objects.proofs.Founds.{flawed_word, found_kind, found_ends, the_word_fact}
 use Rattle.objects.proofs.Frames.{unfit_flawed, word_there, word_missing, end_word, other_word, wrong_word, word_no_end}
 use Rattle.objects.proofs.frame.the_word.Goals as goal
 

@@ -1,5 +1,5 @@
-use Rattle.std.proofs.Common.{◌≡◌, sym, ap, ◌∙◌, arith}
-use Rattle.format.specs.Bytes.{Got, bad}
+use Rattle.std.proofs.Common.{ap, ◌∙◌, arith}
+use Rattle.format.specs.Bytes.{bad}
 use Rattle.objects.proofs.Ends.{entries_past, entries_read}
 use Rattle.objects.proofs.object.entries_end.Goals as goal
 

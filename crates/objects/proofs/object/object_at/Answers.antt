@@ -1,5 +1,5 @@
-use Rattle.std.proofs.Common.{◌≡◌, sym, ap, ◌∙◌, arith}
-use Rattle.format.specs.Bytes.{Got, bad}
+use Rattle.std.proofs.Common.{ap, ◌∙◌, arith}
+use Rattle.format.specs.Bytes.{bad}
 use Rattle.objects.proofs.Ends.{object_past, object_read}
 use Rattle.objects.proofs.object.object_at.Goals as goal
 

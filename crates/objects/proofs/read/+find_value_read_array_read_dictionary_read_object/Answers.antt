@@ -1,7 +1,6 @@
-use Rattle.std.proofs.Common.{◌≡◌, ℕ, ◌<◌, ◌≤◌, true, false, length, drop, is_some, Err, sym, ap, ◌∙◌, arith}
+use Rattle.std.proofs.Common.{◌≡◌, ℕ, false, drop, is_some, Err, sym, ap, ◌∙◌, arith}
 use Rattle.format.specs.Bytes.{Bytes}
 use Rattle.format.specs.Space.{skip}
-use Rattle.format.specs.Strings.{turns}
 use Rattle.lexer.specs.Spelled.{spelled}
 use Rattle.objects.specs.Steps.{token_in, EndsAt}
 use Rattle.std.proofs.lemmas.Result.{err_from_is_err_and}

@@ -1,4 +1,4 @@
-use Rattle.std.proofs.Common.{◌≡◌, ◌+◌, ◌-◌, ◌*◌, ◌≤◌, false, cond, length, drop}
+use Rattle.std.proofs.Common.{◌+◌, ◌-◌, ◌*◌, ◌≤◌, false, cond, length, drop}
 use Rattle.format.specs.Strings.{turns}
 use Rattle.format.specs.Objects.{items, no_entries}
 use Rattle.objects.specs.Extents.{read_by, entries_by, find}

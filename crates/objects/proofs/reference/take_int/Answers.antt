@@ -1,6 +1,6 @@
-use Rattle.std.proofs.Common.{◌≡◌, ◌<◌, ap, ◌∙◌}
+use Rattle.std.proofs.Common.{◌<◌, ap, ◌∙◌}
 use Rattle.format.specs.Objects.{plain_int}
-use Rattle.lexer.specs.Views.{kind_of, Moves}
+use Rattle.lexer.specs.Views.{kind_of}
 use Rattle.objects.proofs.Founds.{flawed_int, found_kind, found_ends, no_int, the_int_fact}
 use Rattle.objects.proofs.reference.take_int.Goals as goal
 

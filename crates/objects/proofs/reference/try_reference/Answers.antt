@@ -1,4 +1,4 @@
-use Rattle.std.proofs.Common.{◌≡◌, refl, ap, ◌∙◌, arith}
+use Rattle.std.proofs.Common.{refl, arith}
 use Rattle.objects.proofs.References.{ref_no_int, ref_no_number, ref_no_generation, ref_no_mark, tries_found, tries_none}
 use Rattle.objects.proofs.reference.try_reference.Goals as goal
 

@@ -1,15 +1,12 @@
 use native.Mathlib.Nat.{min-eq_left}
 use Rattle.objects.proofs.References.{tries_at}
-use Rattle.std.proofs.Common.{◌≡◌, ℕ, ◌<◌, ◌≤◌, true, false, length, drop, ℤ, pos, Some, None, sym, refl, ap, ◌∙◌, arith, w32, w64, SFits, to_z, of_z, rules}
+use Rattle.std.proofs.Common.{ℕ, ◌<◌, ◌≤◌, drop, pos, Some, None, sym, refl, ap, ◌∙◌, arith, w32, w64, SFits, to_z, of_z, rules}
 use Rattle.std.proofs.lemmas.Int.{to_z-of_z}
-use Rattle.format.specs.Bytes.{Bytes, Got, ok, bad}
-use Rattle.format.specs.Tokens as format
-use Rattle.format.specs.Objects.{Reader, mark_obj, of_token, one, trial, tried}
-use Rattle.lexer.specs.Views.{kind_of, found_token, Moves}
-use Rattle.objects.specs.declared.shape.Shape.{Shape}
+use Rattle.format.specs.Bytes.{ok, bad}
+use Rattle.format.specs.Objects.{mark_obj, of_token, trial, tried}
+use Rattle.lexer.specs.Views.{kind_of, found_token}
 use Rattle.objects.specs.declared.shape.Shape.TheVariants as shapes
 use Rattle.objects.specs.Shapes.{shaped}
-use Rattle.objects.specs.Steps.{token_in, word_shape}
 use Rattle.objects.proofs.Founds.{flawed_one, found_one, words, word_got, word_plain}
 use Rattle.objects.proofs.Turns.{shaped_bad}
 use Rattle.objects.proofs.start.start_of.Goals as goal

@@ -1,5 +1,5 @@
 use Rattle.std.proofs.Common.{◌≡◌, ◌+◌, ◌-◌, true, false, take, drop, codes, sym, ap, ◌∙◌, arith}
-use Rattle.format.specs.Bytes.{Got, bad, same}
+use Rattle.format.specs.Bytes.{bad, same}
 use Rattle.objects.proofs.Streams.{end_few, end_other, end_goes_on, end_stops, end_last}
 use Rattle.objects.proofs.stream.end_stream.Goals as goal
 

@@ -1,5 +1,5 @@
-use Rattle.std.proofs.Common.{◌≡◌, ◌≤◌, sym, ap, ◌∙◌, arith}
-use Rattle.format.specs.Bytes.{Got, bad}
+use Rattle.std.proofs.Common.{◌≤◌, ap, ◌∙◌, arith}
+use Rattle.format.specs.Bytes.{bad}
 use Rattle.objects.proofs.Cases.{further}
 use Rattle.objects.proofs.Streams.{data_few, data_there}
 use Rattle.objects.proofs.stream.stream_data.Goals as goal

@@ -1,5 +1,5 @@
-use Rattle.std.proofs.Common.{◌≡◌, sym, ap, ◌∙◌, arith}
-use Rattle.format.specs.Bytes.{Got, bad}
+use Rattle.std.proofs.Common.{ap, ◌∙◌, arith}
+use Rattle.format.specs.Bytes.{bad}
 use Rattle.objects.proofs.Streams.{line_none, line_lf, line_other, line_cut, line_crlf, line_cr}
 use Rattle.objects.proofs.stream.stream_line.Goals as goal
 

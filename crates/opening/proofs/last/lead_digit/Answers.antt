@@ -1,4 +1,3 @@
-use Rattle.std.proofs.Common.{arith}
 use Rattle.opening.proofs.Digits.{digit_range}
 use Rattle.opening.proofs.last.lead_digit.Goals as goal
 

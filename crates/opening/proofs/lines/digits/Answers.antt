@@ -1,7 +1,6 @@
-use Rattle.std.proofs.Common.{◌≡◌, ℕ, suc, ◌+◌, ◌-◌, ◌*◌, ◌^◌, ◌<◌, ◌≤◌, List, drop, sym, ap, ◌∙◌, arith, lit<}
+use Rattle.std.proofs.Common.{◌≡◌, ℕ, ◌+◌, ◌-◌, ◌^◌, ◌<◌, ◌≤◌, List, drop, sym, ap, ◌∙◌, arith, lit<}
 use native.Mathlib.Nat.{pow-le-pow_right}
 use Rattle.format.specs.Lines.{digits}
-use Rattle.format.specs.Bytes.{is_digit}
 use Rattle.opening.proofs.Digits.{few, next_power, digits_at, digits_all, digits_more, digits_many, digits_stop, digits_end, digits_misfit, digits_short}
 use Rattle.opening.proofs.lines.digits.Goals as goal
 

@@ -1,6 +1,6 @@
-use Rattle.std.proofs.Common.{◌≡◌, ◌+◌, ◌-◌, drop, sym, ap, ◌∙◌, arith}
+use Rattle.std.proofs.Common.{◌+◌, ◌-◌, drop, sym, ap, ◌∙◌, arith}
 use Rattle.format.specs.Lines.{digits_of}
-use Rattle.opening.proofs.Digits.{grows, few, next_power, at_power, exactly_all, exactly_short, exactly_misfit, exactly_more}
+use Rattle.opening.proofs.Digits.{few, next_power, at_power, exactly_all, exactly_short, exactly_misfit, exactly_more}
 use Rattle.opening.proofs.lines.digits_of.Goals as goal
 
 pub with_digit-value-requires : goal.with_digit-value-requires

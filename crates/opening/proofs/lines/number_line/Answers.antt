@@ -2,7 +2,7 @@ use Rattle.std.proofs.Common.{◌≡◌, Err, arith}
 use Rattle.std.proofs.lemmas.Result.{err_from_is_err_and}
 use Rattle.std.proofs.lemmas.Bool.{eq-eqb, ne_eqb}
 use Rattle.format.specs.Lines.{number_line}
-use Rattle.opening.proofs.Pieces.{cut, on, passes_from, line_lacks}
+use Rattle.opening.proofs.Pieces.{cut, on, line_lacks}
 use Rattle.opening.proofs.lines.number_line.Goals as goal
 
 pub returns-in_err-number : goal.returns-in_err-number

@@ -1,7 +1,7 @@
 use Rattle.std.proofs.Common.{◌≡◌, Err, refl, arith}
 use Rattle.std.proofs.lemmas.Result.{err_from_is_err_and}
 use Rattle.format.specs.Lines.{sub_line}
-use Rattle.opening.proofs.Pieces.{cut, on, passes_from, row_lacks}
+use Rattle.opening.proofs.Pieces.{cut, on, row_lacks}
 use Rattle.opening.proofs.lines.subsection_line.Goals as goal
 
 pub returns-in_err-first : goal.returns-in_err-first

@@ -1,4 +1,4 @@
-use Rattle.std.proofs.Common.{◌≡◌, Ok, Err, codes, arith}
+use Rattle.std.proofs.Common.{◌≡◌, Err, codes, arith}
 use Rattle.std.proofs.lemmas.Result.{err_from_is_err_and}
 use Rattle.format.specs.Lines.{exact_line, number_line}
 use Rattle.format.specs.Sections.{tail}

@@ -1,8 +1,7 @@
-use Rattle.std.proofs.Common.{◌≡◌, ◌+◌, ◌^◌, ◌≤◌, length, drop, Err, sym, refl, ap, ◌∙◌, arith}
+use Rattle.std.proofs.Common.{◌≡◌, ◌+◌, ◌^◌, ◌≤◌, drop, Err, sym, refl, ap, ◌∙◌, arith}
 use Rattle.std.proofs.lemmas.Result.{err_from_is_err_and}
 use Rattle.format.specs.Bytes.{bad}
 use Rattle.format.specs.Lines.{sub_line}
-use Rattle.opening.specs.Held.{listed_by}
 use Rattle.opening.proofs.Answered.{row_placed, row_within, both_below}
 use Rattle.opening.proofs.Readings.{reads_bad, made_bad}
 use Rattle.opening.proofs.Subs.{sub_line_bad, sub_unfit, sub_fits, sub_bad}

@@ -1,6 +1,5 @@
-use Rattle.std.proofs.Common.{◌≡◌, ◌+◌, length, drop, Err, sym, refl, ap, ◌∙◌, arith}
+use Rattle.std.proofs.Common.{◌≡◌, ◌+◌, drop, Err, arith}
 use Rattle.std.proofs.lemmas.Result.{err_from_is_err_and}
-use Rattle.opening.specs.Held.{listed_by}
 use Rattle.opening.proofs.AllSubs.{all_first_bad, all_bad, all_read}
 use Rattle.opening.proofs.Readings.{reads_bad}
 use Rattle.opening.proofs.subsections.read_subsections.Goals as goal

@@ -1,4 +1,4 @@
-use Rattle.std.proofs.Common.{sym, ap, ◌∙◌}
+use Rattle.std.proofs.Common.{ap, ◌∙◌}
 use Rattle.objects.specs.Shapes.{shape_in}
 use Rattle.lexer.specs.Spelled.{spelled}
 use Rattle.opening.specs.Trailers.{kind_in}

@@ -1,11 +1,9 @@
-use Rattle.std.proofs.Common.{◌≡◌, length, drop, Ok, Err, sym, refl, ap, ◌∙◌, arith}
+use Rattle.std.proofs.Common.{◌≡◌, Err, sym, ap, ◌∙◌, arith}
 use Rattle.std.proofs.lemmas.Result.{err_from_is_err_and}
 use Rattle.faults.specs.declared.reason.Reason.TheVariants.{BytesEnd}
-use Rattle.format.specs.Bytes.{Bytes, ok, bad}
+use Rattle.format.specs.Bytes.{bad}
 use Rattle.format.specs.Chain.{window_bytes}
 use Rattle.format.specs.Failures.{section_fault}
-use Rattle.format.specs.Objects.{no_entries, entries, object_by}
-use Rattle.format.specs.Strings.{turns}
 use Rattle.records.proofs.Checking.{section_past, section_here}
 use Rattle.records.proofs.Reading.{window_counts}
 use Rattle.records.proofs.Sectioned.{window_few, trailer_seen}

@@ -1,4 +1,4 @@
-use Rattle.std.proofs.Common.{◌≡◌, List, [], ◌∷◌, map, length, string_bytes, sym, ap, ◌∙◌, subst, arith}
+use Rattle.std.proofs.Common.{◌≡◌, [], ◌∷◌, map, string_bytes, sym, ap, ◌∙◌, subst, arith}
 use lib.ListN.{length-map}
 use Rattle.reports.specs.Commands.{Parsed}
 use Rattle.reports.proofs.Listed.{one, two, four}

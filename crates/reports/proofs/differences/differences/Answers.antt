@@ -1,10 +1,10 @@
-use Rattle.std.proofs.Common.{◌≡◌, ◌+◌, ◌-◌, ◌≤◌, ◌++◌, Some, None, Ok, Err, vec_items, vec_len, vec_capacity, sym, refl, ap, ◌∙◌, subst, append-nil, arith}
+use Rattle.std.proofs.Common.{◌≡◌, ◌+◌, ◌-◌, ◌++◌, Ok, Err, vec_items, vec_len, vec_capacity, sym, ap, ◌∙◌, subst, append-nil, arith}
 use Rattle.chains.proofs.Steps.{answered, never_answer}
 use Rattle.std.proofs.lemmas.Result.{err_from_is_err_and}
 use Rattle.book.specs.Books.{moment_of}
-use Rattle.reports.specs.declared.trouble.Trouble.TheVariants.{NoMemory, Refused}
+use Rattle.reports.specs.declared.trouble.Trouble.TheVariants.{Refused}
 use Rattle.reports.specs.Differences.{Differs, pairs_of}
-use Rattle.reports.proofs.Between.{ListedAs, list_shows, refused_first, refused_second, between, behind, differ_shows, all_shown, behind_none, none_listed, one_listed}
+use Rattle.reports.proofs.Between.{list_shows, refused_first, refused_second, behind, differ_shows, all_shown, behind_none, none_listed, one_listed}
 use Rattle.reports.proofs.differences.differences.Goals.{in-Some, in-None}
 use Rattle.reports.proofs.differences.differences.Goals as goal
 

@@ -1,4 +1,4 @@
-use Rattle.std.proofs.Common.{◌≡◌, ◌++◌, get_or, take, vec_items, ap, ◌∙◌, arith}
+use Rattle.std.proofs.Common.{◌++◌, get_or, take, vec_items, ap, ◌∙◌, arith}
 use Rattle.std.proofs.lemmas.List.{take_all, take_more, flat_map_more}
 use Rattle.std.specs.List.{flat_map}
 use Rattle.reports.specs.Excerpts.{spelled}

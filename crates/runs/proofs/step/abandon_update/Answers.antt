@@ -1,4 +1,4 @@
-use Rattle.std.proofs.Common.{◌≡◌, ap, ◌∙◌}
+use Rattle.std.proofs.Common.{ap, ◌∙◌}
 use Rattle.format.specs.Book.{abandon, spent_after}
 use Rattle.runs.proofs.Making.{abandon_spent_made, abandon_made}
 use Rattle.runs.proofs.Ties.{stays_spent}

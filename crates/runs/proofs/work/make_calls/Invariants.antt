@@ -1,4 +1,4 @@
-use Rattle.std.proofs.Common.{◌≡◌, ◌≤◌, map, length, vec_items, vec_len, vec_capacity}
+use Rattle.std.proofs.Common.{◌≡◌, map, length, vec_items, vec_capacity}
 use Rattle.format.specs.Law.{Run}
 use Rattle.keeping.specs.Driving.{events_of}
 use Rattle.book.specs.Books.{Sound, moment_of}

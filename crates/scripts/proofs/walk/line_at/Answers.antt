@@ -1,4 +1,4 @@
-use Rattle.std.proofs.Common.{◌+◌, refl, arith}
+use Rattle.std.proofs.Common.{◌+◌, refl}
 use Rattle.std.proofs.lemmas.List.{take_rest}
 use Rattle.scripts.proofs.Cut.{line_cut, line_last}
 use Rattle.scripts.proofs.walk.line_at.Goals as goal

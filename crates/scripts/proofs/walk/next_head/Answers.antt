@@ -1,4 +1,4 @@
-use Rattle.std.proofs.Common.{sym, ◌∙◌, arith}
+use Rattle.std.proofs.Common.{sym, arith}
 use Rattle.scripts.proofs.Steps.{head_none, head_past, head_here}
 use Rattle.scripts.proofs.Small.{head_small}
 use Rattle.scripts.proofs.walk.next_head.Goals as goal

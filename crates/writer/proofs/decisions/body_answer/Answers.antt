@@ -1,4 +1,4 @@
-use Rattle.std.proofs.Common.{Err, sym, refl, ap, ◌∙◌}
+use Rattle.std.proofs.Common.{Err, ap, ◌∙◌}
 use Rattle.format.specs.Book.{body_answer}
 use Rattle.writer.proofs.decisions.body_answer.Goals as goal
 

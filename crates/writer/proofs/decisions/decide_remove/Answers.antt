@@ -1,8 +1,6 @@
-use Rattle.std.proofs.Common.{◌≡◌, Bool, Ok, Err, sym, refl, ap, ◌∙◌}
+use Rattle.std.proofs.Common.{Err, sym, ap, ◌∙◌}
 use Rattle.std.proofs.lemmas.Bool.{eq-eqb, ne_eqb}
 use Rattle.format.specs.Book.{is_used}
-use Rattle.format.specs.Bytes.{Bytes}
-use Rattle.format.specs.Revisions.{Revision, nth}
 use Rattle.writer.specs.Helds.{update_of}
 use Rattle.writer.proofs.Decided.{remove_unused, remove_root, remove_again, remove_full, remove_ok}
 use Rattle.writer.proofs.Tables.{state_of}

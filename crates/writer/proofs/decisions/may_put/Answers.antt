@@ -1,4 +1,4 @@
-use Rattle.std.proofs.Common.{◌≡◌, ◌+◌, ◌<◌, ◌≤◌, length, sym, ap, ◌∙◌, arith}
+use Rattle.std.proofs.Common.{◌≡◌, ◌+◌, ◌≤◌, length, sym, ap, ◌∙◌, arith}
 use Rattle.format.specs.Book.{is_worn_out}
 use Rattle.format.specs.Updates.{new_numbers}
 use Rattle.writer.specs.Helds.{update_of}

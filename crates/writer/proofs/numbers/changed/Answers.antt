@@ -1,6 +1,5 @@
-use Rattle.std.proofs.Common.{refl}
 use Rattle.std.specs.Option.{option_map}
-use Rattle.entries.specs.Cells.{part, state_in}
+use Rattle.entries.specs.Cells.{state_in}
 use Rattle.writer.proofs.Planning.{body_planned, removed_planned}
 use Rattle.writer.proofs.numbers.changed.Goals as goal
 

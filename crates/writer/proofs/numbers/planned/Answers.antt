@@ -1,4 +1,4 @@
-use Rattle.std.proofs.Common.{[], sym, ◌∙◌, arith}
+use Rattle.std.proofs.Common.{[], arith}
 use Rattle.writer.proofs.numbers.planned.Goals as goal
 
 pub changed-requires : goal.changed-requires

@@ -1,5 +1,5 @@
-use Rattle.std.proofs.Common.{◌≡◌, length, ap, ◌∙◌, arith}
-use Rattle.writer.specs.Listing.{front, listed_at}
+use Rattle.std.proofs.Common.{length, ap, arith}
+use Rattle.writer.specs.Listing.{front}
 use Rattle.writer.proofs.RunsWritten.{run_written, none_written}
 use Rattle.writer.proofs.runs.write_from.Goals as goal
 

@@ -1,4 +1,4 @@
-use Rattle.std.proofs.Common.{◌≡◌, ◌+◌, ◌≤◌, length, Err, sym, ap, ◌∙◌, arith}
+use Rattle.std.proofs.Common.{◌≤◌, length, Err, sym, ap, ◌∙◌, arith}
 use Rattle.bounds.specs.Deciding.{KeepsLimits}
 use Rattle.bounds.proofs.Bounded.{bounded}
 use Rattle.bounds.proofs.Decided.{decided}

@@ -1,7 +1,7 @@
 use Rattle.std.proofs.Common.{◌≡◌, Ok, Err, refl, ap, ◌∙◌, subst}
 use Rattle.std.proofs.lemmas.Result.{err_from_is_err_and}
 use Rattle.format.specs.Book.{commit, spent_after, phase_after}
-use Rattle.book.specs.Books.{Performs, moment_of}
+use Rattle.book.specs.Books.{Performs}
 use Rattle.book.proofs.Performed.{rows_counted, stands_after}
 use Rattle.book.proofs.book.Book.commit.Goals as goal
 

@@ -1,4 +1,4 @@
-use Rattle.std.proofs.Common.{◌≡◌, length, take, Some, None, ap, ◌∙◌, subst, arith}
+use Rattle.std.proofs.Common.{length, take, Some, None, ap, ◌∙◌, subst, arith}
 use Rattle.book.specs.declared.book.Book.{Book}
 use Rattle.book.specs.Books.{cells_in}
 use Rattle.book.specs.Rows.{Found}

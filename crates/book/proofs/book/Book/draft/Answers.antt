@@ -1,4 +1,4 @@
-use Rattle.std.proofs.Common.{◌≡◌, length, sym, refl, ap, ◌∙◌, subst, arith}
+use Rattle.std.proofs.Common.{length, sym, refl, ap, ◌∙◌, subst, arith}
 use Rattle.format.specs.Book.{newest, addition}
 use Rattle.format.specs.Writing.{update_bytes, update_objects}
 use Rattle.entries.specs.Tables.{cells_of}

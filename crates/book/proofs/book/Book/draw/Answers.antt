@@ -5,7 +5,6 @@ use Rattle.faults.specs.declared.reason.Reason.TheVariants.{NoSpace}
 use Rattle.faults.specs.Faults.{refused}
 use Rattle.format.specs.Chain.{must}
 use Rattle.keeping.proofs.Asked.{draw_rows}
-use Rattle.book.specs.Asked.{Draws}
 use Rattle.book.proofs.Questioned.{draw_refused}
 use Rattle.book.proofs.book.Book.draw.Goals as goal
 

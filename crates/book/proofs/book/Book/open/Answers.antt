@@ -1,4 +1,4 @@
-use Rattle.std.proofs.Common.{◌≡◌, Ok, refl, ◌∙◌, subst}
+use Rattle.std.proofs.Common.{Ok, refl, ◌∙◌, subst}
 use Rattle.format.specs.Book.{phase_after}
 use Rattle.book.specs.Books.{Performs}
 use Rattle.book.proofs.Performed.{rows_counted, stands_after}

@@ -1,4 +1,3 @@
-use Rattle.std.proofs.Common.{refl}
 use Rattle.book.specs.declared.call.Phase.TheVariants.{Shut, Standing, Updating}
 use Rattle.book.proofs.Obstacles.{shut_others, standing_others, updating_others}
 use Rattle.book.proofs.Performed.{not_allowed}

@@ -1,4 +1,4 @@
-use Rattle.std.proofs.Common.{◌≡◌, length, Ok, Err, sym, ap, ◌∙◌}
+use Rattle.std.proofs.Common.{length, Ok, Err, sym, ap, ◌∙◌}
 use Rattle.keeping.proofs.Asked.{count_rows, shut_answers}
 use Rattle.book.proofs.Questioned.{open_book}
 use Rattle.book.proofs.book.Book.revisions.Goals as goal

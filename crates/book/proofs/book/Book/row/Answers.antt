@@ -1,4 +1,4 @@
-use Rattle.std.proofs.Common.{◌≡◌, Some, None, Err, sym, ap, ◌∙◌, subst}
+use Rattle.std.proofs.Common.{Some, None, Err, sym, ap, ◌∙◌, subst}
 use Rattle.book.specs.Rows.{Found}
 use Rattle.book.proofs.Questioned.{shut_row, no_row, open_book}
 use Rattle.book.proofs.book.Book.row.Goals as goal

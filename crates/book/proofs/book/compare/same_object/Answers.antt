@@ -1,8 +1,8 @@
-use Rattle.std.proofs.Common.{◌≡◌, ◌-◌, true, false, ◌&&◌, eqb, length, take, drop, sym, refl, ap, ◌∙◌, arith, length-drop, length-take}
+use Rattle.std.proofs.Common.{◌≡◌, true, ◌&&◌, eqb, sym, ap, ◌∙◌, arith}
 use Rattle.std.proofs.lemmas.Bool.{eq-eqb}
 use Rattle.format.specs.Bytes.{same}
 use Rattle.entries.specs.Cells.{part}
-use Rattle.book.proofs.Compared.{same_refl, unlike_lengths, part_length, same_part}
+use Rattle.book.proofs.Compared.{unlike_lengths, part_length, same_part}
 use Rattle.book.proofs.book.compare.same_object.Goals as goal
 
 pub returns-then-count-b : goal.returns-then-count-b

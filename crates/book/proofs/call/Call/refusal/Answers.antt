@@ -1,4 +1,4 @@
-use Rattle.std.proofs.Common.{◌≡◌, sym, subst}
+use Rattle.std.proofs.Common.{◌≡◌, subst}
 use Rattle.faults.specs.Faults.{refused}
 use Rattle.book.specs.Calls.{Refuses, number_of, obstacle}
 use Rattle.book.proofs.Obstacles.{refuses}

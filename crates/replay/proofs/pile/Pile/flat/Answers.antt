@@ -1,4 +1,4 @@
-use Rattle.std.proofs.Common.{◌≡◌, true, is_ok, Some, vec_len, ap, ◌∙◌}
+use Rattle.std.proofs.Common.{◌≡◌, true, is_ok, Some, ap, ◌∙◌}
 use Rattle.replay.proofs.Stretched.{stretched}
 use Rattle.replay.proofs.pile.Pile.flat.Goals as goal
 

@@ -1,5 +1,5 @@
 use Rattle.std.proofs.Common.{arith}
-use Rattle.writer.proofs.Changes.{none_within, none_bytes, none_held}
+use Rattle.writer.proofs.Changes.{none_within, none_bytes}
 use Rattle.writer.proofs.held.Held.new.Goals as goal
 
 pub invariant_of-result : goal.invariant_of-result

@@ -1,4 +1,4 @@
-use Rattle.std.proofs.Common.{length, Some, sym, ap, ◌∙◌, arith}
+use Rattle.std.proofs.Common.{length, Some, sym, arith}
 use Rattle.format.specs.Writing.{runs}
 use Rattle.writer.specs.Listing.{listed_at}
 use Rattle.writer.proofs.Joined.{adds_then, adds_as}

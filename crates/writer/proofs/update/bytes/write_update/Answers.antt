@@ -1,7 +1,6 @@
-use Rattle.std.proofs.Common.{◌≡◌, ◌+◌, [], ◌++◌, length, Some, sym, refl, ap, ◌∙◌, append-nil, arith}
-use Rattle.format.specs.Updates.{new_numbers}
+use Rattle.std.proofs.Common.{◌≡◌, ◌+◌, [], ◌++◌, length, Some, ap, ◌∙◌, arith}
 use Rattle.format.specs.Writing.{object_bytes, runs, section_bytes, update_objects}
-use Rattle.writer.specs.Drafts.{count, written}
+use Rattle.writer.specs.Drafts.{written}
 use Rattle.writer.specs.Helds.{update_of}
 use Rattle.writer.specs.Listing.{listed_at}
 use Rattle.writer.specs.Plans.{all_made}
