@@ -5,10 +5,13 @@ cd "$(dirname "$0")/.."
 copy=$(mktemp -d)
 trap 'rm -rf "$copy"' EXIT
 git ls-files -z | xargs -0 cp --parents -t "$copy"
+shopt -s nullglob
 for folder in tools/edits/*/; do
   name=$(basename "$folder")
   mkdir -p "$copy/crates/$name/must-fail"
-  cp "$folder"*.edit "$copy/crates/$name/must-fail/"
+  for edit in "$folder"*.edit; do
+    cp "$edit" "$copy/crates/$name/must-fail/"
+  done
 done
 cd "$copy"
 rt must-fail "$@"
