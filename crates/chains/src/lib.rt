@@ -5,29 +5,21 @@ ghost use Rattle.chains.specs.Stated.{LongerOpen, UpdatesOpen, EndsAscend};
 ghost use Rattle.format.specs.Theorems.{PrefixesOpen};
 
 // The bytes of a file up to the end of its revision k open as its first k revisions.
-pub fn prefixes_open() -> u8
+pub fn prefixes_open()
     ensures { PrefixesOpen }
-{
-    0
-}
+{}
 
 // A file with one more section behind it opens as its old revisions and one more.
-pub fn longer_files_open() -> u8
+pub fn longer_files_open()
     ensures { LongerOpen }
-{
-    0
-}
+{}
 
 // A file with an update behind it, whose section reads back, opens as its old revisions and one more.
-pub fn updated_files_open() -> u8
+pub fn updated_files_open()
     ensures { UpdatesOpen }
-{
-    0
-}
+{}
 
 // Revisions stand one behind another, and the newest ends where the file ends.
-pub fn ends_ascend() -> u8
+pub fn ends_ascend()
     ensures { EndsAscend }
-{
-    0
-}
+{}

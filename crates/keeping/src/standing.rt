@@ -2,8 +2,6 @@
 ghost use Rattle.keeping.specs.Standing.{SoundStays};
 
 // Every accepted call leaves the tables those of the book's bytes.
-pub fn sound_stays() -> u8
+pub fn sound_stays()
     ensures { SoundStays }
-{
-    0
-}
+{}

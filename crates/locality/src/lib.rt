@@ -6,8 +6,6 @@ pub mod reading;
 ghost use Rattle.locality.specs.Locality.{TokensAreLocal};
 
 // A token that stands at a place stands there before any other bytes that do not lengthen it, and from any other place.
-pub fn tokens_are_local() -> u8
+pub fn tokens_are_local()
     ensures { TokensAreLocal }
-{
-    0
-}
+{}

@@ -4,36 +4,26 @@ ghost use Rattle.locality.specs.LocalityObjects.{ObjectsAreLocal};
 ghost use Rattle.locality.specs.LocalityTrailers.{CopiedTrailersReadBack, TrailersAreLocal};
 
 // An object that was read is read again before any bytes that do not lengthen it, and from any place.
-pub fn objects_are_local() -> u8
+pub fn objects_are_local()
     ensures { ObjectsAreLocal }
-{
-    0
-}
+{}
 
 // A body, an object or a stream, and an object in the file that were read are read again before any bytes that do not lengthen them.
-pub fn frames_are_local() -> u8
+pub fn frames_are_local()
     ensures { FramesAreLocal }
-{
-    0
-}
+{}
 
 // What is written of an object that may be put reads back as that object.
-pub fn written_objects_read_back() -> u8
+pub fn written_objects_read_back()
     ensures { WrittenObjectsReadBack }
-{
-    0
-}
+{}
 
 // A trailer's dictionary that was read is read again before any bytes, and from any place.
-pub fn trailers_are_local() -> u8
+pub fn trailers_are_local()
     ensures { TrailersAreLocal }
-{
-    0
-}
+{}
 
 // What is written of a trailer whose entries are copied reads back as those entries, with the new Size and Prev.
-pub fn copied_trailers_read_back() -> u8
+pub fn copied_trailers_read_back()
     ensures { CopiedTrailersReadBack }
-{
-    0
-}
+{}

@@ -5,29 +5,21 @@ ghost use Rattle.rules.specs.Examples.{WorkedRules};
 ghost use Rattle.rules.specs.Stated.{AcceptsByRules, DecidesEveryFile, RefusesFirstBreach};
 
 // A file opens as these revisions exactly when the rules hold.
-pub fn rules_decide_opening() -> u8
+pub fn rules_decide_opening()
     ensures { AcceptsByRules }
-{
-    0
-}
+{}
 
 // It is refused with a fault exactly when that is the fault of the first check that fails.
-pub fn first_breach_is_the_fault() -> u8
+pub fn first_breach_is_the_fault()
     ensures { RefusesFirstBreach }
-{
-    0
-}
+{}
 
 // Every file keeps the rules, with one history, or has a first breach, with one fault; and not both.
-pub fn every_file_is_decided() -> u8
+pub fn every_file_is_decided()
     ensures { DecidesEveryFile }
-{
-    0
-}
+{}
 
 // The worked file keeps the rules; with a wrong generation of Root, that is its first breach.
-pub fn worked_file_keeps_the_rules() -> u8
+pub fn worked_file_keeps_the_rules()
     ensures { WorkedRules }
-{
-    0
-}
+{}
