@@ -6,12 +6,12 @@ use std::fmt;
 
 #[derive(Clone, Copy, PartialEq, Eq, Debug)]
 pub enum Layer {
-    Token,
-    Object,
-    Section,
-    Chain,
-    Book,
-    Store,
+    Token = 1,
+    Object = 2,
+    Section = 3,
+    Chain = 4,
+    Book = 5,
+    Store = 6,
 }
 
 impl Layer {
@@ -19,14 +19,7 @@ impl Layer {
     pub fn number(self) -> u8
         ensures { result ≡ layer_number self }
     {
-        match self {
-            Layer::Token => 1,
-            Layer::Object => 2,
-            Layer::Section => 3,
-            Layer::Chain => 4,
-            Layer::Book => 5,
-            Layer::Store => 6,
-        }
+        self as u8
     }
 
     fn words(self) -> &'static str

@@ -10,6 +10,7 @@ mod methods;
 pub const TAIL_SIZE: usize = 4096;
 
 // The first `shown` bytes of the store below, or all of them where it has fewer, and then the first `used` bytes of the tail.
+// The tail is a fixed 4096 bytes of the overlay itself, so its bytes are counted beside it: a cut lowers the count, and writes nothing.
 #[derive(Drop)]
 pub struct Overlay<S: Store> {
     below: S,

@@ -35,9 +35,10 @@ pub trait Store {
         ensures { Filled (meaning self.now).bytes from buffer.old result buffer.new }
     {
         let count = buffer.len().min(self.len().saturating_sub(from));
-        for i in 0..count {
+        let window = &mut buffer[..count];
+        for (i, slot) in window.iter_mut().enumerate() {
             if let Some(b) = self.byte_at(from + i) {
-                buffer[i] = b;
+                *slot = b;
             }
         }
         count

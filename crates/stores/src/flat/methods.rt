@@ -5,7 +5,7 @@ ghost use Rattle.stores.specs.Flats.{FlatFits, Holds, flat_meaning, memory_of, s
 ghost use Rattle.stores.specs.Meanings.{Appends, Cuts};
 
 use super::Flat;
-use crate::row::{lay_in, window};
+use crate::row::{lay, window};
 use crate::store::{LONGEST, Store};
 use faults::fault::Fault;
 use faults::reason::Reason;
@@ -56,11 +56,7 @@ impl Store for Flat {
     }
 
     fn byte_at(&self, place: usize) -> Option<u8> {
-        if place < self.used {
-            Some(self.memory[place])
-        } else {
-            None
-        }
+        self.memory[..self.used].get(place).copied()
     }
 
     // The memory keeps its size.
@@ -72,7 +68,7 @@ impl Store for Flat {
         if more.len() > self.memory.len() - used {
             return Err(Fault::refused(Reason::NoSpace, 0));
         }
-        lay_in(&mut self.memory, used, more);
+        lay(&mut self.memory, used, more);
         self.used = used + more.len();
         Ok(())
     }
@@ -90,6 +86,6 @@ impl Store for Flat {
     }
 
     fn read(&self, from: usize, buffer: &mut [u8]) -> usize {
-        window(&self.memory.as_slice()[0..self.used], from, buffer)
+        window(&self.memory[..self.used], from, buffer)
     }
 }

@@ -1,5 +1,6 @@
 // The calls of an overlay.
 ghost use Rattle.std.specs.Prelude.{◌≡◌, ◌+◌, ◌-◌, ◌≤◌, ◌++◌, length, take, OnOk, nat_lt};
+ghost use Rattle.std.specs.List.{slice_get};
 ghost use Rattle.stores.specs.Figures.{Checked, longest, tail_size};
 ghost use Rattle.stores.specs.Meanings.{Appends, Cuts, Filled};
 ghost use Rattle.stores.specs.Overlays.{OverlayFits, beneath, overlay_meaning, part_size, shown_over, space_cut_to};
@@ -74,12 +75,19 @@ impl<S: Store> Overlay<S> {
         place < self.base()
     }
 
+    // The byte of the tail at a place, counted from the tail's start.
+    fn tail_byte(&self, place: usize) -> Option<u8>
+        ensures { result ≡ slice_get (take self.now.used self.now.tail) place }
+    {
+        self.tail[..self.used].get(place).copied()
+    }
+
     // Reads the tail, by a place counted over the whole overlay; one in the part below stands for the tail's start.
     fn read_tail(&self, from: usize, buffer: &mut [u8]) -> usize
         ensures { Filled (take self.now.used self.now.tail) (from - part_size S.Store.meaning self.now) buffer.old result buffer.new }
     {
         let start = from.saturating_sub(self.base());
-        window(&self.tail[0..self.used], start, buffer)
+        window(&self.tail[..self.used], start, buffer)
     }
 
     // Adds to the tail.
@@ -120,13 +128,9 @@ impl<S: Store> Store for Overlay<S> {
 
     fn byte_at(&self, place: usize) -> Option<u8> {
         if self.is_below(place) {
-            return self.below.byte_at(place);
-        }
-        let behind = place - self.base();
-        if behind < self.used {
-            Some(self.tail[behind])
+            self.below.byte_at(place)
         } else {
-            None
+            self.tail_byte(place - self.base())
         }
     }
 
@@ -162,7 +166,7 @@ impl<S: Store> Store for Overlay<S> {
     // The part below by one read, and what is left of the buffer from the tail.
     fn read(&self, from: usize, buffer: &mut [u8]) -> usize {
         let ahead = buffer.len().min(self.base().saturating_sub(from));
-        self.below.read(from, &mut buffer[0..ahead]);
+        self.below.read(from, &mut buffer[..ahead]);
         let behind = self.read_tail(from, &mut buffer[ahead..]);
         ahead + behind
     }

@@ -3,4 +3,4 @@ use Rattle.stores.proofs.store.Store.read.Given as goal
 
 abbrev pub invariant-loop-i : goal.invariant-loop-i
 invariant-loop-i g l =
-    l.buffer ≡ take l.i (drop l.from (g.Self.Store.meaning l.self).bytes) ++ drop l.i l.initial.buffer
+    l.window ≡ take l.i (drop l.from (g.Self.Store.meaning l.self).bytes) ++ drop l.i l.initial.window
