@@ -1,12 +1,12 @@
 -- How strings and lines end, as the definitions say it.
-use Rattle.std.specs.Prelude.{ℕ, ◌<◌, ◌≤◌, length, drop}
+use Rattle.std.specs.Prelude.{ℕ, ◌<◌, ◌≤◌, length, drop, Ok, Err, Result}
 use Rattle.format.specs.Bytes.{Bytes}
 use Rattle.format.specs.Space.{Eol, no_bytes, no_eol, eol_to}
 use Rattle.format.specs.Strings.{Span, closed, unclosed, too_deep_at, broken_at}
 use Rattle.lexer.specs.declared.hex.HexEnd.{HexEnd}
 use Rattle.lexer.specs.declared.hex.HexEnd.TheVariants as hexes
-use Rattle.lexer.specs.declared.line.LineEnd.{LineEnd}
-use Rattle.lexer.specs.declared.line.LineEnd.TheVariants as lines
+use Rattle.lexer.specs.declared.line.Lack.{Lack}
+use Rattle.lexer.specs.declared.line.Lack.TheVariants.{Short, Misfit}
 use Rattle.lexer.specs.declared.literal.LiteralEnd.{LiteralEnd}
 use Rattle.lexer.specs.declared.literal.LiteralEnd.TheVariants as literals
 
@@ -35,13 +35,7 @@ HexWithin src p hexes.Unclosed = Unit {0}
 HexWithin src p (hexes.BrokenAt q) = q < length src
 
 -- the end of a line in the bytes src
-abbrev pub line_shown : Bytes → LineEnd → Eol
-line_shown src lines.NoBytes = no_bytes
-line_shown src lines.Other = no_eol
-line_shown src (lines.To q) = eol_to q (drop q src)
-
--- it takes a byte, and none past the end
-abbrev pub LineWithin : Bytes → ℕ → LineEnd → Type 0
-LineWithin src p lines.NoBytes = Unit {0}
-LineWithin src p lines.Other = Unit {0}
-LineWithin src p (lines.To q) = (p < q) × (q ≤ length src)
+abbrev pub line_shown : Bytes → Result ℕ Lack → Eol
+line_shown src (Ok q) = eol_to q (drop q src)
+line_shown src (Err Short) = no_bytes
+line_shown src (Err Misfit) = no_eol

@@ -1,39 +1,34 @@
 // Ends of line.
-ghost use Rattle.std.specs.Prelude.{◌≡◌, ◌≤◌, length, drop};
+ghost use Rattle.std.specs.Prelude.{◌≡◌, ◌<◌, ◌≤◌, length, drop, IfOk};
 ghost use Rattle.format.specs.Space.{eol_at};
-ghost use Rattle.lexer.specs.Endings.{line_shown, LineWithin};
+ghost use Rattle.lexer.specs.Endings.{line_shown};
 
-// Whether a line ends at a place.
-#[derive(Clone, Copy)]
-pub enum LineEnd {
-    // the bytes end before it
-    NoBytes,
-    // something else stands there
-    Other,
-    // it does: the place behind CR LF, LF or CR
-    To(usize),
+// What a part of a line lacks.
+#[derive(Clone, Copy, Debug, PartialEq, Eq)]
+pub enum Lack {
+    // the bytes end in it
+    Short,
+    // they do not fit
+    Misfit,
 }
 
-pub fn line_end(src: &[u8], at: usize) -> LineEnd
+// The place behind the end of line at `at`: CR LF, LF, or CR with no LF behind it.
+pub fn line_end(src: &[u8], at: usize) -> Result<usize, Lack>
     requires { at ≤ length src.now }
     ensures is { line_shown src.now result ≡ eol_at at (drop at src.now) }
-    ensures within { LineWithin src.now at result }
+    ensures within { IfOk result (λ q. (at < q) × (q ≤ length src.now)) }
 {
     if at == src.len() {
-        return LineEnd::NoBytes;
+        return Err(Lack::Short);
     }
     if src[at] == b'\n' {
-        return LineEnd::To(at + 1);
+        return Ok(at + 1);
     }
     if src[at] != b'\r' {
-        return LineEnd::Other;
+        return Err(Lack::Misfit);
     }
-    if at + 1 == src.len() {
-        return LineEnd::To(at + 1);
+    if at + 1 < src.len() && src[at + 1] == b'\n' {
+        return Ok(at + 2);
     }
-    if src[at + 1] == b'\n' {
-        LineEnd::To(at + 2)
-    } else {
-        LineEnd::To(at + 1)
-    }
+    Ok(at + 1)
 }

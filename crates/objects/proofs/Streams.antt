@@ -1,6 +1,7 @@
 -- The parts of a stream, at a place of the bytes.
-use Rattle.std.proofs.Common.{◌≡◌, ℕ, suc, ◌+◌, ◌-◌, ◌<◌, ◌≤◌, Bool, true, false, eqb, leb, List, [], ◌∷◌, length, get_or, take, drop, Some, None, codes, sym, refl, ap, ◌∙◌, add-one, arith, length-drop, drop-cons, drop-drop, le-leb}
+use Rattle.std.proofs.Common.{◌≡◌, ℕ, suc, ◌+◌, ◌-◌, ◌<◌, ◌≤◌, Bool, true, false, eqb, leb, List, [], ◌∷◌, length, get_or, take, drop, Some, None, Ok, Err, Result, IfOk, codes, sym, refl, ap, ◌∙◌, add-one, arith, length-drop, drop-cons, drop-drop, le-leb}
 use borrow.Author.Tests.{lt-leb}
+use Rattle.std.specs.Result.{result_unwrap_or}
 use Rattle.std.proofs.lemmas.List.{at_drop_all}
 use Rattle.std.proofs.lemmas.Bool.{eq-eqb, ne_eqb}
 use Rattle.faults.specs.declared.reason.Reason.TheVariants.{BytesEnd, BadFrame}
@@ -8,6 +9,9 @@ use Rattle.format.specs.Bytes.{Bytes, ok, bad, end_of, same, is_regular}
 use Rattle.format.specs.Failures.{object_fault}
 use Rattle.format.specs.Space.{no_bytes, no_eol, eol_to, after_cr, eol_at}
 use Rattle.format.specs.Frames.{stream_line, maybe_eol, behind, word_ends, end_stream, stream_data}
+use Rattle.lexer.specs.declared.line.Lack.{Lack}
+use Rattle.lexer.specs.declared.line.Lack.TheVariants.{Short, Misfit}
+use Rattle.lexer.specs.Endings.{line_shown}
 use Rattle.objects.proofs.Cases.{cases}
 
 -- a byte stands at a place, and the others behind it
@@ -77,46 +81,19 @@ module _ (src : Bytes) (p : ℕ) where
   unfolding maybe_eol
   eol_no e = rw e refl
 
-  pub eol_none : p ≡ length src → EolEnds p
-  unfolding maybe_eol eol_at
-  eol_none h = let e : eol_at p (drop p src) ≡ no_bytes = at_drop_all (eol_at p) src p (omega arith) in rw e refl
+  eol_nothing : eol_at p (drop p src) ≡ no_bytes → EolEnds p
+  unfolding maybe_eol
+  eol_nothing e = rw e refl
 
-  pub eol_lf : p < length src → get_or src p 0 ≡ 10 → EolEnds (p + 1)
-  unfolding eol_at
-  eol_lf h e = let a = eq-eqb _ _ e in eol_to_fact (p + 1) (rw add-one (at_place (eol_at p) src p h ∙ rw (a, eol_at) refl))
+  -- an end of line that was read, or none
+  pub eol_skipped : (r : Result ℕ Lack) → line_shown src r ≡ eol_at p (drop p src) → EolEnds (result_unwrap_or r p)
+  eol_skipped (Ok q) e = eol_to_fact q (sym e)
+  eol_skipped (Err Short) e = eol_nothing (sym e)
+  eol_skipped (Err Misfit) e = eol_no (sym e)
 
-  pub eol_other : p < length src → (get_or src p 0 ≡ 10 → ⊥) → (get_or src p 0 ≡ 13 → ⊥) → EolEnds p
-  unfolding eol_at
-  eol_other h e f = let a = ne_eqb _ _ e in let b = ne_eqb _ _ f in eol_no (at_place (eol_at p) src p h ∙ rw (a, b, eol_at) refl)
-
-  pub eol_last : (get_or src p 0 ≡ 10 → ⊥) → get_or src p 0 ≡ 13 → p + 1 ≡ length src → EolEnds (p + 1)
-  unfolding eol_at after_cr
-  eol_last e f h =
-      let a = ne_eqb _ _ e in
-      let b = eq-eqb _ _ f in
-      let r = at_drop_all (λ (ys : Bytes). ys) src (p + 1) (omega arith) in
-      eol_to_fact (p + 1) (rw (r, add-one) (one_place (eol_at p) src p h ∙ rw (a, b, eol_at) refl))
-
-  pub eol_crlf : (get_or src p 0 ≡ 10 → ⊥) → get_or src p 0 ≡ 13 → p + 1 < length src → get_or src (p + 1) 0 ≡ 10 → EolEnds (p + 2)
-  unfolding eol_at after_cr
-  eol_crlf e f h g =
-      let a = ne_eqb _ _ e in
-      let b = eq-eqb _ _ f in
-      let c = eq-eqb _ _ g in
-      let j : suc (suc p) ≡ p + 2 = omega arith in
-      eol_to_fact (p + 2) (two_places (eol_at p) src p h ∙ rw (a, b, eol_at, c, after_cr, j) refl)
-
-  pub eol_cr : (get_or src p 0 ≡ 10 → ⊥) → get_or src p 0 ≡ 13 → p + 1 < length src → (get_or src (p + 1) 0 ≡ 10 → ⊥) → EolEnds (p + 1)
-  unfolding eol_at after_cr
-  eol_cr e f h g =
-      let a = ne_eqb _ _ e in
-      let b = eq-eqb _ _ f in
-      let c = ne_eqb _ _ g in
-      let i : p + 1 ≡ suc p = omega arith in
-      let k : p + 2 ≡ suc (suc p) = omega arith in
-      let l : suc p < length src = omega arith in
-      let r : drop (p + 1) src ≡ get_or src (p + 1) 0 ∷ drop (p + 2) src = rw (i, k) (drop-cons src (suc p) 0 l) in
-      eol_to_fact (p + 1) (two_places (eol_at p) src p h ∙ rw (a, b, eol_at, c, after_cr, r, i) refl)
+  pub skipped_within : (r : Result ℕ Lack) → p ≤ length src → IfOk r (λ q. (p < q) × (q ≤ length src)) → (p ≤ result_unwrap_or r p) × (result_unwrap_or r p ≤ length src)
+  skipped_within (Ok q) h (a, b) = (omega arith, b)
+  skipped_within (Err e) h w = (omega arith, h)
 
 -- bytes that are too few do not begin with ws
 behind_few : (ws xs : Bytes) → length xs < length ws → behind ws xs ≡ None

@@ -8,9 +8,10 @@ use faults::fault::Fault;
 use faults::layer::Layer;
 use faults::reason::Reason;
 use lexer::bytes::is_regular;
+use lexer::line::line_end;
 use lexer::name::same_bytes;
 
-// The end of line behind `stream`, LF or CR LF: the place behind it.
+// The end of line behind `stream`, LF or CR LF: the place behind it. A CR alone ends a line elsewhere and none here, so the bytes are asked themselves.
 pub fn stream_line(src: &[u8], from: usize) -> Result<usize, Fault>
     requires { from ≤ length src.now }
     ensures is { placed src.now result ≡ stream_line from (drop from src.now) }
@@ -41,23 +42,7 @@ fn skip_eol(src: &[u8], from: usize) -> usize
     ensures is { maybe_eol from (drop from src.now) (eol_at from (drop from src.now)) ≡ (result, drop result src.now) }
     ensures within { (from ≤ result) × (result ≤ length src.now) }
 {
-    if from == src.len() {
-        return from;
-    }
-    let b = src[from];
-    if b == b'\n' {
-        return from + 1;
-    }
-    if b != b'\r' {
-        return from;
-    }
-    if from + 1 == src.len() {
-        return from + 1;
-    }
-    if src[from + 1] == b'\n' {
-        return from + 2;
-    }
-    from + 1
+    line_end(src, from).unwrap_or(from)
 }
 
 // `endstream` as a whole word: the place behind it.

@@ -5,8 +5,8 @@ use Rattle.faults.specs.declared.reason.Reason.TheVariants.{BytesEnd}
 use Rattle.format.specs.Bytes.{Bytes, Got, ok, bad, then, end_of}
 use Rattle.format.specs.Failures.{section_fault}
 use Rattle.format.specs.Lines.{Piece, placed}
-use Rattle.opening.specs.declared.part.Lack.{Lack}
-use Rattle.opening.specs.declared.part.Lack.TheVariants.{Short, Misfit}
+use Rattle.lexer.specs.declared.line.Lack.{Lack}
+use Rattle.lexer.specs.declared.line.Lack.TheVariants.{Short, Misfit}
 use Rattle.opening.specs.Answers.{line_fault, piece_here, answered, passed_to, EndsWithin}
 use Rattle.opening.specs.Parts.{passed, taken, PassesWithin, TakesWithin, Passes, Takes, BothBelow}
 use Rattle.opening.specs.Readings.{got_by}

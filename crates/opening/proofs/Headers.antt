@@ -6,8 +6,8 @@ use Rattle.format.specs.Frames.{behind}
 use Rattle.format.specs.Lines.{Piece, took, short, misfit, exact}
 use Rattle.format.specs.Revisions.{version_fits, header_fits}
 use Rattle.locality.proofs.Cases.{cases}
-use Rattle.opening.specs.declared.part.Lack.{Lack}
-use Rattle.opening.specs.declared.part.Lack.TheVariants.{Short, Misfit}
+use Rattle.lexer.specs.declared.line.Lack.{Lack}
+use Rattle.lexer.specs.declared.line.Lack.TheVariants.{Short, Misfit}
 use Rattle.opening.specs.Parts.{Passes}
 use Rattle.opening.proofs.Places.{at_place}
 

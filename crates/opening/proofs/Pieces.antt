@@ -2,8 +2,8 @@
 use Rattle.std.proofs.Common.{◌≡◌, ℕ, ◌+◌, ◌≤◌, drop, Ok, Err, Result, ap, ◌∙◌, arith}
 use Rattle.format.specs.Bytes.{Bytes}
 use Rattle.format.specs.Lines.{Piece, took, next}
-use Rattle.opening.specs.declared.part.Lack.{Lack}
-use Rattle.opening.specs.declared.part.Lack.TheVariants.{Short, Misfit}
+use Rattle.lexer.specs.declared.line.Lack.{Lack}
+use Rattle.lexer.specs.declared.line.Lack.TheVariants.{Short, Misfit}
 use Rattle.opening.specs.Parts.{lacking, PassesWithin, Passes, Takes}
 
 -- what a part lacks, the line lacks

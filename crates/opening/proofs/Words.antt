@@ -1,82 +1,51 @@
 -- Ends of line and words, at a place of the window.
-use Rattle.std.proofs.Common.{◌≡◌, ℕ, suc, ◌+◌, ◌<◌, ◌≤◌, true, false, eqb, [], ◌∷◌, length, get_or, drop, sym, refl, ap, ◌∙◌, arith}
+use Rattle.std.proofs.Common.{◌≡◌, ℕ, suc, ◌+◌, ◌<◌, ◌≤◌, true, false, eqb, [], ◌∷◌, length, get_or, drop, Ok, Err, Result, IfOk, sym, refl, ap, ◌∙◌, arith}
 use Rattle.std.proofs.lemmas.List.{at_drop_all}
 use Rattle.std.proofs.lemmas.Bool.{eq-eqb, ne_eqb}
 use Rattle.format.specs.Bytes.{Bytes}
-use Rattle.format.specs.Space.{no_eol, eol_to, after_cr, eol_at}
+use Rattle.format.specs.Space.{Eol, no_bytes, no_eol, eol_to, after_cr, eol_at}
 use Rattle.format.specs.Lines.{Piece, took, short, misfit, eol_piece, eol, exact}
+use Rattle.lexer.specs.declared.line.Lack.{Lack}
+use Rattle.lexer.specs.declared.line.Lack.TheVariants.{Short, Misfit}
+use Rattle.lexer.specs.Endings.{line_shown}
+use Rattle.locality.proofs.Cases.{cases}
+use Rattle.opening.specs.Parts.{passed, PassesWithin}
 use Rattle.opening.proofs.Places.{at_place, one_on}
 
-module _ (p x : ℕ) (xs : Bytes) where
-  lf_here : eqb x 10 ≡ true → eol_at p (x ∷ xs) ≡ eol_to (suc p) xs
-  unfolding eol_at
-  lf_here e = rw (e, eol_at)
+-- the same end of line, counted from a place further in front
+abbrev shifted : ℕ → Eol → Eol
+shifted base no_bytes = no_bytes
+shifted base no_eol = no_eol
+shifted base (eol_to q xs) = eol_to (base + q) xs
 
-  none_here : eqb x 10 ≡ false → eqb x 13 ≡ false → eol_at p (x ∷ xs) ≡ no_eol
-  unfolding eol_at
-  none_here e f = rw (e, f, eol_at)
-
-  cr_here : eqb x 10 ≡ false → eqb x 13 ≡ true → eol_at p (x ∷ xs) ≡ after_cr (suc p) xs
-  unfolding eol_at
-  cr_here e f = rw (e, f, eol_at)
-
-  lf_behind : eqb x 10 ≡ true → after_cr p (x ∷ xs) ≡ eol_to (suc p) xs
+module _ (base p : ℕ) where
+  cr_shifted : (xs : Bytes) → after_cr (suc (base + p)) xs ≡ shifted base (after_cr (suc p) xs)
   unfolding after_cr
-  lf_behind e = rw (e, after_cr)
+  cr_shifted [] = let i : suc (base + p) ≡ base + suc p = omega arith in ap (λ q. eol_to q []) i
+  cr_shifted (x ∷ xs) =
+      let i : suc (base + p) ≡ base + suc p = omega arith in
+      let j : suc (suc (base + p)) ≡ base + suc (suc p) = omega arith in
+      cases (eqb x 10) (λ e. rw (e, after_cr) (ap (λ q. eol_to q xs) j)) (λ e. rw (e, after_cr) (ap (λ q. eol_to q (x ∷ xs)) i))
 
-  other_behind : eqb x 10 ≡ false → after_cr p (x ∷ xs) ≡ eol_to p (x ∷ xs)
-  unfolding after_cr
-  other_behind e = rw (e, after_cr)
+  eol_shifted : (xs : Bytes) → eol_at (base + p) xs ≡ shifted base (eol_at p xs)
+  unfolding eol_at
+  eol_shifted [] = refl
+  eol_shifted (x ∷ xs) =
+      let i : suc (base + p) ≡ base + suc p = omega arith in
+      cases (eqb x 10)
+      (λ e. rw (e, eol_at) (ap (λ q. eol_to q xs) i))
+      (λ e. cases (eqb x 13) (λ f. rw (e, f, eol_at) (cr_shifted xs)) (λ f. rw (e, f, eol_at)))
 
-none_behind : (p : ℕ) → after_cr p [] ≡ eol_to p []
-unfolding after_cr
-none_behind p = refl
+-- an end of line that was read, at a place of the window
+pub eol_read : (src : Bytes) (p base : ℕ) (r : Result ℕ Lack) → line_shown src r ≡ eol_at p (drop p src) → eol (base + p) (drop p src) ≡ passed base src r
+unfolding eol eol_piece
+eol_read src p base (Ok q) e = ap eol_piece (eol_shifted base p (drop p src) ∙ ap (shifted base) (sym e))
+eol_read src p base (Err Short) e = ap eol_piece (eol_shifted base p (drop p src) ∙ ap (shifted base) (sym e))
+eol_read src p base (Err Misfit) e = ap eol_piece (eol_shifted base p (drop p src) ∙ ap (shifted base) (sym e))
 
-cr_is_no_lf : (x : ℕ) → x ≡ 13 → eqb x 10 ≡ false
-cr_is_no_lf x e = ne_eqb x 10 (λ f. omega arith)
-
--- An end of line, by what stands there.
-module _ (src : Bytes) (p base : ℕ) where
-  pub eol_short : length src ≤ p → eol (base + p) (drop p src) ≡ short
-  unfolding eol eol_piece eol_at
-  eol_short h = at_drop_all (eol (base + p)) src p h
-
-  pub eol_lf : p < length src → get_or src p 0 ≡ 10 → eol (base + p) (drop p src) ≡ took tt (base + (p + 1)) (drop (p + 1) src)
-  unfolding eol eol_piece
-  eol_lf h e =
-      at_place (eol (base + p)) src p h ∙ ap eol_piece (lf_here _ _ _ (eq-eqb _ _ e)) ∙ one_on (λ q. took tt q (drop (p + 1) src)) base p
-
-  pub eol_misfit : p < length src → (get_or src p 0 ≡ 10 → ⊥) → (get_or src p 0 ≡ 13 → ⊥) → eol (base + p) (drop p src) ≡ misfit
-  unfolding eol eol_piece
-  eol_misfit h e f = at_place (eol (base + p)) src p h ∙ ap eol_piece (none_here _ _ _ (ne_eqb _ _ e) (ne_eqb _ _ f))
-
-  behind_cr : p < length src → get_or src p 0 ≡ 13 → eol (base + p) (drop p src) ≡ eol_piece (after_cr (base + (p + 1)) (drop (p + 1) src))
-  unfolding eol
-  behind_cr h e =
-      at_place (eol (base + p)) src p h
-      ∙ ap eol_piece (cr_here _ _ _ (cr_is_no_lf _ e) (eq-eqb _ _ e) ∙ one_on (λ q. after_cr q (drop (p + 1) src)) base p)
-
-  pub eol_crlf : p + 1 < length src → get_or src p 0 ≡ 13 → get_or src (p + 1) 0 ≡ 10 → eol (base + p) (drop p src) ≡ took tt (base + (p + 2)) (drop (p + 2) src)
-  unfolding eol_piece
-  eol_crlf h e f =
-      let q : p + 1 + 1 ≡ p + 2 = omega arith in
-      let i : p < length src = omega arith in
-      behind_cr i e
-      ∙ ap eol_piece (at_place (after_cr (base + (p + 1))) src (p + 1) h ∙ lf_behind _ _ _ (eq-eqb _ _ f) ∙ one_on (λ k. eol_to k (drop (p + 1 + 1) src)) base (p + 1))
-      ∙ (λ j. took tt (base + q j) (drop (q j) src))
-
-  pub eol_cr_last : p < length src → length src ≤ p + 1 → get_or src p 0 ≡ 13 → eol (base + p) (drop p src) ≡ took tt (base + (p + 1)) (drop (p + 1) src)
-  unfolding eol_piece
-  eol_cr_last h l e =
-      behind_cr h e
-      ∙ ap eol_piece (at_drop_all (after_cr (base + (p + 1))) src (p + 1) l ∙ none_behind _ ∙ sym (at_drop_all (eol_to (base + (p + 1))) src (p + 1) l))
-
-  pub eol_cr : p + 1 < length src → get_or src p 0 ≡ 13 → (get_or src (p + 1) 0 ≡ 10 → ⊥) → eol (base + p) (drop p src) ≡ took tt (base + (p + 1)) (drop (p + 1) src)
-  unfolding eol_piece
-  eol_cr h e f =
-      let i : p < length src = omega arith in
-      behind_cr i e
-      ∙ ap eol_piece (at_place (after_cr (base + (p + 1))) src (p + 1) h ∙ other_behind _ _ _ (ne_eqb _ _ f) ∙ sym (at_place (eol_to (base + (p + 1))) src (p + 1) h))
+pub eol_within : (src : Bytes) (p : ℕ) (r : Result ℕ Lack) → IfOk r (λ q. (p < q) × (q ≤ length src)) → PassesWithin src p r
+eol_within src p (Ok q) (a, b) = (omega arith, b)
+eol_within src p (Err e) h = tt
 
 -- One byte of a word.
 module _ (w : ℕ) (ws : Bytes) (p : ℕ) where

@@ -5,8 +5,8 @@ use Rattle.faults.specs.declared.reason.Reason.TheVariants.{BytesEnd, BadLine}
 use Rattle.format.specs.Failures.{section_fault}
 use Rattle.format.specs.Bytes.{Bytes, Got, ok, bad}
 use Rattle.format.specs.Lines.{Piece, took}
-use Rattle.opening.specs.declared.part.Lack.{Lack}
-use Rattle.opening.specs.declared.part.Lack.TheVariants.{Short, Misfit}
+use Rattle.lexer.specs.declared.line.Lack.{Lack}
+use Rattle.lexer.specs.declared.line.Lack.TheVariants.{Short, Misfit}
 use Rattle.opening.specs.Parts.{lacking}
 
 -- what a line that starts at p of the window src lacks, as a fault: at the end of the window, or at the line's first byte

@@ -3,8 +3,8 @@
 use Rattle.std.specs.Prelude.{◌≡◌, ℕ, ◌+◌, ◌<◌, ◌≤◌, length, drop, Ok, Err, Result}
 use Rattle.format.specs.Bytes.{Bytes}
 use Rattle.format.specs.Lines.{Piece, took, short, misfit}
-use Rattle.opening.specs.declared.part.Lack.{Lack}
-use Rattle.opening.specs.declared.part.Lack.TheVariants.{Short, Misfit}
+use Rattle.lexer.specs.declared.line.Lack.{Lack}
+use Rattle.lexer.specs.declared.line.Lack.TheVariants.{Short, Misfit}
 
 -- a part that lacks something
 abbrev pub lacking : {A : Type 0} → Lack → Piece A

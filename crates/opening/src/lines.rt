@@ -6,28 +6,17 @@ ghost use Rattle.opening.specs.Parts.{Passes, Takes, Below, BothBelow};
 
 use crate::part::Lack;
 use lexer::bytes::is_digit;
+use lexer::line::line_end;
 
 // A number of a line has one to ten digits.
 pub const MOST_DIGITS: usize = 10;
 
-// The place behind the end of line at `from`: CR LF, LF, or CR with no LF behind it.
+// The place behind the end of line at `from`.
 pub fn eol(src: &[u8], from: usize) -> Result<usize, Lack>
     requires { from ≤ length src.now }
     ensures { Passes eol src.now from result }
 {
-    if from == src.len() {
-        return Err(Lack::Short);
-    }
-    if src[from] == b'\n' {
-        return Ok(from + 1);
-    }
-    if src[from] != b'\r' {
-        return Err(Lack::Misfit);
-    }
-    if from + 1 < src.len() && src[from + 1] == b'\n' {
-        return Ok(from + 2);
-    }
-    Ok(from + 1)
+    line_end(src, from)
 }
 
 // The place behind just these bytes.

@@ -1,9 +1,3 @@
-// What a part of a line lacks.
+// What a part of a line lacks: an end of line is one, and the lexer reads it.
 
-#[derive(Clone, Copy, Debug, PartialEq, Eq)]
-pub enum Lack {
-    // the bytes end in it
-    Short,
-    // they do not fit
-    Misfit,
-}
+pub use lexer::line::Lack;

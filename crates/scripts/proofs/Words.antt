@@ -8,8 +8,8 @@ use Rattle.format.specs.Frames.{behind}
 use Rattle.format.specs.Lines.{took, digits}
 use Rattle.locality.proofs.Cases.{cases, cases_o}
 use Rattle.locality.proofs.Tests.{clash, equal}
-use Rattle.opening.specs.declared.part.Lack.{Lack}
-use Rattle.opening.specs.declared.part.Lack.TheVariants.{Short, Misfit}
+use Rattle.lexer.specs.declared.line.Lack.{Lack}
+use Rattle.lexer.specs.declared.line.Lack.TheVariants.{Short, Misfit}
 use Rattle.opening.specs.Parts.{lacking}
 use Rattle.scripts.specs.declared.line.BodyLine.TheVariants.{Text, End, Dot}
 use Rattle.scripts.specs.declared.line.Head.TheVariants.{Nothing}
