@@ -7,6 +7,7 @@ pub mod entry;
 pub mod header;
 pub mod last;
 pub mod lines;
+mod numbers;
 pub mod part;
 pub mod placed;
 pub mod rows;
