@@ -15,3 +15,4 @@ pub mod section;
 mod subsections;
 pub mod told;
 pub mod trailer;
+pub mod view;
