@@ -1,11 +1,12 @@
-// Entries of a cross-reference section.
+// Entries of cross-reference sections.
 
-// In use or free; its ten digits, which are the object's offset or the next free number; its generation.
+// An entry of a section, by its ten digits and its generation.
 #[derive(Clone, Copy, Debug, PartialEq, Eq)]
-pub struct Entry {
-    pub in_use: bool,
-    pub field: u64,
-    pub generation: u32,
+pub enum Entry {
+    // in use: where its object stands in the file
+    Used { offset: u64, generation: u32 },
+    // free: the next free number
+    Free { next: u64, generation: u32 },
 }
 
 // An entry with the number that it is listed under.

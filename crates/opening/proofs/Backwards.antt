@@ -1,15 +1,17 @@
 -- A window read backwards, by what stands before a place.
-use Rattle.std.proofs.Common.{◌≡◌, ℕ, suc, ◌+◌, ◌-◌, ◌*◌, ◌^◌, ◌<◌, ◌≤◌, Bool, true, false, ◌&&◌, eqb, leb, [], ◌∷◌, ◌++◌, reverse, length, get_or, take, Some, None, Option, sym, refl, ap, ◌∙◌, append_assoc, append-nil, mul-le-mul_right, mul_assoc, mul_comm, add-mul, pow-suc, arith, lit<}
+use Rattle.std.proofs.Common.{◌≡◌, ℕ, suc, ◌+◌, ◌-◌, ◌<◌, ◌≤◌, Bool, true, false, ◌&&◌, eqb, leb, ◌⊎◌, [], ◌∷◌, ◌++◌, reverse, length, get_or, take, drop, Some, None, Option, sym, refl, ap, ◌∙◌, inl, inr, append_assoc, append-nil, arith}
 use mathlib.Core.List.{reverse_aux-eq}
-use native.Mathlib.Nat.{pow-le-pow_right}
-use Rattle.std.proofs.lemmas.List.{take_more, take_all, reverse-append}
-use Rattle.std.proofs.lemmas.Bool.{eq-eqb, ne_eqb, le-leb, lt-leb, and_left, and_right, and_from}
-use Rattle.format.specs.Bytes.{Bytes, is_digit, span, value, value_on}
+use Rattle.std.specs.List.{suffix_len}
+use Rattle.std.proofs.lemmas.List.{take_more, take_all, take-take, take-append-le, length-append, length-take, reverse-append, reverse-reverse}
+use Rattle.std.proofs.lemmas.List.Sums.{suffix_len-le-length}
+use Rattle.std.proofs.lemmas.Option.{none-some}
+use Rattle.std.proofs.lemmas.Bool.{eq-eqb, ne_eqb, eqb-true, le-leb, lt-leb, and_left, and_right, and_from}
+use Rattle.format.specs.Bytes.{Bytes, is_digit, span, value}
 use Rattle.format.specs.Frames.{behind}
 use Rattle.format.specs.Sections.{back_eol, on, back_digits}
 use Rattle.locality.proofs.Cases.{cases}
 use Rattle.opening.specs.Backwards.{before}
-use Rattle.opening.proofs.Digits.{digit_range}
+use Rattle.opening.proofs.Runs.{span_on, span_stops, span_none, span_by, cut_at, last_taken, last_dropped}
 
 module _ (src : Bytes) where
   before_more : (i : ℕ) → i < length src → before src (i + 1) ≡ get_or src i 0 ∷ before src i
@@ -99,27 +101,47 @@ pub behind_misfits : (w x : ℕ) (ws xs : Bytes) → eqb w x ≡ false → behin
 unfolding behind
 behind_misfits w x ws xs e = rw (e, behind)
 
-pub word_all : (word src : Bytes) (at : ℕ) → behind (before word (length word)) (before src at) ≡ behind (reverse word) (before src at)
-word_all word src at = ap (λ w. behind w (before src at)) (before_all word)
+pub behind_front : (w ys : Bytes) → behind w (w ++ ys) ≡ Some ys
+behind_front [] ys = behind_all ys
+behind_front (x ∷ w) ys = behind_fits x x w (w ++ ys) (eq-eqb x x refl) ∙ behind_front w ys
 
-module _ (word src : Bytes) (i at : ℕ) {z : Option Bytes} (was : behind (before word i) (before src at) ≡ z) where
-  pub word_ends_fact : i ≡ 0 → z ≡ Some (before src at)
-  word_ends_fact e = sym was ∙ ap (λ w. behind w (before src at)) (before_none word i e) ∙ behind_all _
+-- where the bytes do not begin with the word
+behind_is : (w xs ys : Bytes) → behind w xs ≡ Some ys → xs ≡ w ++ ys
+behind_is [] xs ys e = let f : xs ≡ ys = (let g : Some xs ≡ Some ys = sym (behind_all xs) ∙ e in cc) in f
+behind_is (w ∷ ws) [] ys e = absurd (none-some ys (sym (behind_none w ws) ∙ e))
+behind_is (w ∷ ws) (x ∷ xs) ys e =
+    cases (eqb w x)
+    (λ f.
+    let g : w ≡ x = eqb-true w x f in
+    let h = behind_is ws xs ys (sym (behind_fits w x ws xs f) ∙ e) in
+    rw (g, h) refl)
+    (λ f. absurd (none-some ys (sym (behind_misfits w x ws xs f) ∙ e)))
 
-  module _ (a : 0 < i) (h : i ≤ length word) where
-    pub word_short : at ≡ 0 → z ≡ None
-    word_short e =
-        sym was ∙ ap (λ w. behind w (before src at)) (before_back word i a h) ∙ ap (behind (get_or word (i - 1) 0 ∷ before word (i - 1))) (before_none src at e) ∙ behind_none _ _
+pub behind_other : (w xs : Bytes) → ((rest : Bytes) → xs ≡ w ++ rest → ⊥) → behind w xs ≡ None
+behind_other w xs h = go (behind w xs) refl where
+  go : (o : Option Bytes) → behind w xs ≡ o → o ≡ None
+  go None e = refl
+  go (Some ys) e = absurd (h ys (behind_is w xs ys e))
 
-    module _ (b : 0 < at) (l : at ≤ length src) where
-      here : behind (before word i) (before src at) ≡ behind (get_or word (i - 1) 0 ∷ before word (i - 1)) (get_or src (at - 1) 0 ∷ before src (at - 1))
-      here = ap (λ w. behind w (before src at)) (before_back word i a h) ∙ ap (behind (get_or word (i - 1) 0 ∷ before word (i - 1))) (before_back src at b l)
+-- the bytes before a place end with a word, or they do not
+module _ (src word : Bytes) (at : ℕ) where
+  pub word_before : (front : Bytes) → take at src ≡ front ++ word → at ≤ length src → behind (reverse word) (before src at) ≡ Some (before src (length front))
+  unfolding before
+  word_before front e h =
+      let l : length front ≤ at = (let q = ap length e ∙ length-append front word in let r = length-take at src in omega arith) in
+      let f : take (length front) src ≡ front =
+      sym (take-take (length front) at src l) ∙ ap (take (length front)) e ∙ take-append-le (length front) front word (omega arith) ∙ take_all (length front) front (omega arith) in
+      ap (λ xs. behind (reverse word) (reverse xs)) e
+      ∙ ap (behind (reverse word)) (reverse-append front word)
+      ∙ behind_front (reverse word) (reverse front)
+      ∙ ap (λ xs. Some (reverse xs)) (sym f)
 
-      pub word_misfit : (get_or src (at - 1) 0 ≡ get_or word (i - 1) 0 → ⊥) → z ≡ None
-      word_misfit e = sym was ∙ here ∙ behind_misfits _ _ _ _ (ne_eqb _ _ (λ f. e (sym f)))
-
-      pub word_more : get_or src (at - 1) 0 ≡ get_or word (i - 1) 0 → behind (before word (i - 1)) (before src (at - 1)) ≡ z
-      word_more e = sym (here ∙ behind_fits _ _ _ _ (eq-eqb _ _ (sym e))) ∙ was
+  pub word_not_before : ((front : Bytes) → take at src ≡ front ++ word → ⊥) → behind (reverse word) (before src at) ≡ None
+  unfolding before
+  word_not_before h =
+      behind_other (reverse word) (reverse (take at src))
+      (λ rest e. h (reverse rest)
+      (sym (reverse-reverse (take at src)) ∙ ap reverse e ∙ reverse-append (reverse word) rest ∙ ap (λ w. reverse rest ++ w) (reverse-reverse word)))
 
 -- Digits backwards.
 abbrev pub picked : Bool → ℕ → Bytes → Option (ℕ × Bytes)
@@ -143,18 +165,6 @@ unfolding back_on
 back_on_fact x q seen ds rest =
     ap (λ l. picked (leb 1 q && leb q 10) (value l) rest) (ap (λ l. l ++ seen) (reverse_aux-eq ds (x ∷ [])) ∙ append_assoc (reverse ds) (x ∷ []) seen)
 
-pub span_on : (p x : ℕ) (xs : Bytes) → is_digit x ≡ true → span is_digit p (x ∷ xs) ≡ (x ∷ (span is_digit (suc p) xs).0, (span is_digit (suc p) xs).1, (span is_digit (suc p) xs).2)
-unfolding span
-span_on p x xs e = rw (e, span)
-
-pub span_stops : (p x : ℕ) (xs : Bytes) → is_digit x ≡ false → span is_digit p (x ∷ xs) ≡ ([], p, x ∷ xs)
-unfolding span
-span_stops p x xs e = rw (e, span)
-
-pub span_none : (p : ℕ) → span is_digit p [] ≡ ([], p, [])
-unfolding span
-span_none p = refl
-
 pub span_place : (p : ℕ) (xs : Bytes) → p ≤ (span is_digit p xs).1
 span_place p [] = rw (span_none p) (omega arith)
 span_place p (x ∷ xs) =
@@ -166,103 +176,30 @@ pub back_many : (seen : Bytes) (r : Bytes × ℕ × Bytes) → 10 < r.1 → back
 unfolding back_on
 back_many seen r h = ap (λ b. picked b (value (reverse r.0 ++ seen)) r.2) (and_right (leb 1 r.1) (leb r.1 10) (lt-leb r.1 10 h))
 
-back_ends : (seen : Bytes) (k : ℕ) (rest : Bytes) → 0 < k → k ≤ 10 → back_on seen ([], k, rest) ≡ Some (value seen, rest)
-unfolding back_on
-back_ends seen k rest a b = ap (λ t. picked t (value seen) rest) (and_from (leb 1 k) (leb k 10) (le-leb 1 k a) (le-leb k 10 b))
+-- The digits that end before a place, of which there are n.
+module _ (src : Bytes) (at n : ℕ) (run : n ≡ suffix_len is_digit (take at src)) (h : at ≤ length src) where
+  long : at - n + n ≡ length (take at src)
+  long = omega (arith, run, suffix_len-le-length is_digit (take at src), length-take at src)
 
-back_no_digit : (seen : Bytes) (k : ℕ) (rest : Bytes) → k ≡ 0 → back_on seen ([], k, rest) ≡ None
-unfolding back_on
-back_no_digit seen k rest e = ap (λ t. picked t (value seen) rest) (and_left (leb 1 k) (leb k 10) (lt-leb 1 k (omega arith)))
+  before_start : take (at - n) (take at src) ≡ take (at - n) src
+  before_start = take-take (at - n) at src (omega arith)
 
--- What was read from the place low to the place at: the digits seen, which spell the value.
-pub record Run (src : Bytes) (at low v power : ℕ) : Type 0 where
-  pub seen : Bytes
-  pub spelt : (m : ℕ) → value_on m seen ≡ m * power + v
-  pub goes : back_on seen (span is_digit (at - low) (before src low)) ≡ back_digits (span is_digit 0 (before src at))
+  back_here : back_digits (span is_digit 0 (before src at)) ≡ picked (leb 1 n && leb n 10) (value (drop (at - n) (take at src))) (before src (at - n))
+  unfolding before
+  back_here =
+      let z : 0 + n ≡ n = omega arith in
+      ap back_digits (span_by 0 (reverse (take at src)) ∙ ap (λ (m : ℕ). cut_at 0 m (reverse (take at src))) (sym run))
+      ∙ picked_is (cut_at 0 n (reverse (take at src)))
+      ∙ ap (λ (k : ℕ). picked (leb 1 k && leb k 10) (value (reverse (take n (reverse (take at src))))) (drop n (reverse (take at src)))) z
+      ∙ ap (λ (ds : Bytes). picked (leb 1 n && leb n 10) (value ds) (drop n (reverse (take at src)))) (last_taken (take at src) n (at - n) long)
+      ∙ ap (picked (leb 1 n && leb n 10) (value (drop (at - n) (take at src)))) (last_dropped (take at src) n (at - n) long ∙ ap reverse before_start)
 
-pub run_start : (src : Bytes) (at low : ℕ) → low ≡ at → Run src at low 0 1
-unfolding value_on
-run_start src at low e =
-    record {
-      seen = [];
-      spelt = λ m. omega arith;
-      goes = let z : at - low ≡ 0 = omega arith in ap (λ k. back_on [] (span is_digit k (before src low))) z ∙ ap (λ k. back_on [] (span is_digit 0 (before src k))) e ∙ back_start _;
-    }
+  pub back_unfit : (n ≡ 0) ⊎ ((n ≡ 0 → ⊥) × (10 < n)) → back_digits (span is_digit 0 (before src at)) ≡ None
+  back_unfit (inl e) = back_here ∙ ap (λ b. picked b (value (drop (at - n) (take at src))) (before src (at - n))) (and_left (leb 1 n) (leb n 10) (lt-leb 1 n (omega arith)))
+  back_unfit (inr w) = back_here ∙ ap (λ b. picked b (value (drop (at - n) (take at src))) (before src (at - n))) (and_right (leb 1 n) (leb n 10) (lt-leb n 10 w.1))
 
-lead : (m x power v : ℕ) → (m * 10 + (x - 48)) * power + v ≡ m * (power * 10) + ((x - 48) * power + v)
-lead m x power v =
-    let a = add-mul (m * 10) (x - 48) power in
-    let b = mul_assoc m 10 power in
-    let d : m * (10 * power) ≡ m * (power * 10) = ap (λ k. m * k) (mul_comm 10 power) in
-    omega arith
-
-module _ (src : Bytes) (at low v power : ℕ) (run : Run src at low v power) where
-  value_is : value run.seen ≡ v
-  unfolding value
-  value_is = run.spelt 0 ∙ omega arith
-
-  module _ (a : 0 < low) (h : low ≤ length src) where
-    one : is_digit (get_or src (low - 1) 0) ≡ true → back_on (get_or src (low - 1) 0 ∷ run.seen) (span is_digit (suc (at - low)) (before src (low - 1))) ≡ back_digits (span is_digit 0 (before src at))
-    one e =
-        let r = span is_digit (suc (at - low)) (before src (low - 1)) in
-        sym (ap (λ l. back_on run.seen (span is_digit (at - low) l)) (before_back src low a h)
-        ∙ ap (back_on run.seen) (span_on _ _ _ e)
-        ∙ back_on_fact (get_or src (low - 1) 0) r.1 run.seen r.0 r.2)
-        ∙ run.goes
-
-    pub run_more : (w q : ℕ) → w ≡ (get_or src (low - 1) 0 - 48) * power + v → q ≡ power * 10 → low ≤ at → is_digit (get_or src (low - 1) 0) ≡ true → Run src at (low - 1) w q
-    unfolding value_on
-    run_more w q i j l e =
-        record {
-          seen = get_or src (low - 1) 0 ∷ run.seen;
-          spelt = λ m. run.spelt (m * 10 + (get_or src (low - 1) 0 - 48)) ∙ lead m (get_or src (low - 1) 0) power v ∙ (λ t. m * sym j t + sym i t);
-          goes = let k : at - (low - 1) ≡ suc (at - low) = omega arith in ap (λ n. back_on (get_or src (low - 1) 0 ∷ run.seen) (span is_digit n (before src (low - 1)))) k ∙ one e;
-        }
-
-    pub run_many : 10 ≤ at - low → is_digit (get_or src (low - 1) 0) ≡ true → back_digits (span is_digit 0 (before src at)) ≡ None
-    run_many l e = sym (one e) ∙ back_many _ _ (omega (arith, span_place (suc (at - low)) (before src (low - 1))))
-
-    stop : is_digit (get_or src (low - 1) 0) ≡ false → back_digits (span is_digit 0 (before src at)) ≡ back_on run.seen ([], at - low, before src low)
-    stop e =
-        sym run.goes
-        ∙ ap (λ l. back_on run.seen (span is_digit (at - low) l)) (before_back src low a h)
-        ∙ ap (back_on run.seen) (span_stops _ _ _ e)
-        ∙ ap (λ l. back_on run.seen ([], at - low, l)) (sym (before_back src low a h))
-
-    pub run_stops : 0 < at - low → at - low ≤ 10 → is_digit (get_or src (low - 1) 0) ≡ false → back_digits (span is_digit 0 (before src at)) ≡ Some (v, before src low)
-    run_stops b l e = stop e ∙ back_ends _ _ _ b l ∙ ap (λ n. Some (n, before src low)) value_is
-
-    pub run_empty : at - low ≡ 0 → is_digit (get_or src (low - 1) 0) ≡ false → back_digits (span is_digit 0 (before src at)) ≡ None
-    run_empty b e = stop e ∙ back_no_digit _ _ _ b
-
-  end : low ≡ 0 → back_digits (span is_digit 0 (before src at)) ≡ back_on run.seen ([], at - low, before src low)
-  end e =
-      sym run.goes
-      ∙ ap (λ l. back_on run.seen (span is_digit (at - low) l)) (before_none src low e)
-      ∙ ap (back_on run.seen) (span_none _)
-      ∙ ap (λ l. back_on run.seen ([], at - low, l)) (sym (before_none src low e))
-
-  pub run_ends : low ≡ 0 → 0 < at - low → at - low ≤ 10 → back_digits (span is_digit 0 (before src at)) ≡ Some (v, before src low)
-  run_ends e b l = end e ∙ back_ends _ _ _ b l ∙ ap (λ n. Some (n, before src low)) value_is
-
-  pub run_no_digit : low ≡ 0 → at - low ≡ 0 → back_digits (span is_digit 0 (before src at)) ≡ None
-  run_no_digit e b = end e ∙ back_no_digit _ _ _ b
-
--- one, ten and so on
-pub power_start : (k : ℕ) → k ≡ 0 → 1 ≡ 10 ^ k
-power_start k e = rw e
-
-pub power_more : (p k j : ℕ) → p ≡ 10 ^ k → j ≡ suc k → p * 10 ≡ 10 ^ j
-power_more p k j e f = rw (f, pow-suc, e)
-
-pub power_small : (p k : ℕ) → p ≡ 10 ^ k → k ≤ 9 → p ≤ 1000000000
-power_small p k e l = let h : 10 ^ k ≤ 10 ^ 9 = pow-le-pow_right {n = 10} (lit< tt) l in omega arith
-
-pub lead_below : (x p v w : ℕ) → w ≡ (x - 48) * p + v → v < p → is_digit x ≡ true → w < p * 10
-lead_below x p v w e h d =
-    let r = digit_range x d in
-    let b : (x - 48) * p ≤ 9 * p = mul-le-mul_right p (omega arith) in
-    omega arith
+  pub back_taken : 0 < n → n ≤ 10 → back_digits (span is_digit 0 (before src at)) ≡ Some (value (drop (at - n) (take at src)), before src (at - n))
+  back_taken a b = back_here ∙ ap (λ t. picked t (value (drop (at - n) (take at src))) (before src (at - n))) (and_from (leb 1 n) (leb n 10) (le-leb 1 n a) (le-leb n 10 b))
 
 -- one part backwards after another
 pub on_some : {A B : Type 0} (x : Option A) (k : A → Option B) {a : A} {z : Option B} → x ≡ Some a → k a ≡ z → on x k ≡ z

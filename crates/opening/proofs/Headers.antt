@@ -1,38 +1,21 @@
 -- The header, at the start of the bytes.
-use Rattle.std.proofs.Common.{◌≡◌, ℕ, suc, ◌+◌, ◌-◌, ◌<◌, ◌≤◌, Bool, false, ◌&&◌, eqb, leb, [], ◌∷◌, length, get_or, take, drop, Some, None, Ok, Err, codes, Option, sym, refl, ap, ◌∙◌, suc-add, zero-add, arith}
-use Rattle.std.proofs.lemmas.List.{at_drop_all}
+use Rattle.std.proofs.Common.{◌≡◌, ℕ, suc, ◌+◌, ◌-◌, ◌<◌, ◌≤◌, Bool, false, ◌&&◌, eqb, leb, [], ◌∷◌, ◌++◌, length, get_or, take, Some, None, codes, Option, sym, refl, ap, ◌∙◌, suc-add, zero-add, arith}
 use Rattle.format.specs.Bytes.{Bytes}
 use Rattle.format.specs.Frames.{behind}
-use Rattle.format.specs.Lines.{Piece, took, short, misfit, exact}
 use Rattle.format.specs.Revisions.{version_fits, header_fits}
 use Rattle.locality.proofs.Cases.{cases}
-use Rattle.lexer.specs.declared.line.Lack.{Lack}
-use Rattle.lexer.specs.declared.line.Lack.TheVariants.{Short, Misfit}
-use Rattle.opening.specs.Parts.{Passes}
-use Rattle.opening.proofs.Places.{at_place}
+use Rattle.opening.proofs.Backwards.{behind_front, behind_other}
 
--- what stands at a place
-pub version_here : (src : Bytes) (p : ℕ) → p < length src → version_fits (drop p src) ≡ leb 48 (get_or src p 0) && leb (get_or src p 0) 55
+-- what stands next
+pub version_here : (rest : Bytes) → 0 < length rest → version_fits rest ≡ leb 48 (get_or rest 0 0) && leb (get_or rest 0 0) 55
 unfolding version_fits
-version_here src p h = at_place version_fits src p h
+version_here [] h = absurd (omega arith)
+version_here (x ∷ xs) h = refl
 
-pub version_none : (src : Bytes) (p : ℕ) → length src ≤ p → version_fits (drop p src) ≡ false
+pub version_none : (rest : Bytes) → length rest ≡ 0 → version_fits rest ≡ false
 unfolding version_fits
-version_none src p h = at_drop_all version_fits src p h
-
--- the bytes behind a part
-abbrev rest_of : {A : Type 0} → Piece A → Option Bytes
-rest_of (took a p xs) = Some xs
-rest_of short = None
-rest_of misfit = None
-
--- a word that stands there is taken, and the other way round
-behind_exact : (w : Bytes) (p : ℕ) (xs : Bytes) → behind w xs ≡ rest_of (exact w p xs)
-unfolding behind exact
-behind_exact [] p xs = refl
-behind_exact (x ∷ w) p [] = refl
-behind_exact (x ∷ w) p (y ∷ ys) =
-    cases (eqb x y) (λ e. rw (e, behind, exact) (behind_exact w (suc p) ys)) (λ e. rw (e, behind, exact) refl)
+version_none [] h = refl
+version_none (x ∷ xs) h = absurd (omega arith)
 
 -- whether a version stands behind the word
 abbrev fitting : Option Bytes → Bool
@@ -47,12 +30,11 @@ by_version file = at (behind (codes "%PDF-1.") file) where
   at (Some rest) = refl
 
 module _ (src : Bytes) where
-  pub header_read : (r : Bool) (q : ℕ) → Passes (exact (codes "%PDF-1.")) src 0 (Ok q) → r ≡ version_fits (drop q src) → r ≡ header_fits src
-  header_read r q e f = f ∙ sym (by_version src ∙ ap fitting (behind_exact (codes "%PDF-1.") 0 src ∙ ap rest_of (e.is 0)))
+  pub header_read : (r : Bool) (rest : Bytes) → src ≡ codes "%PDF-1." ++ rest → r ≡ version_fits rest → r ≡ header_fits src
+  header_read r rest e f = f ∙ sym (by_version src ∙ ap fitting (ap (behind (codes "%PDF-1.")) e ∙ behind_front (codes "%PDF-1.") rest))
 
-  pub header_none : (l : Lack) → Passes (exact (codes "%PDF-1.")) src 0 (Err l) → false ≡ header_fits src
-  header_none Short e = sym (by_version src ∙ ap fitting (behind_exact (codes "%PDF-1.") 0 src ∙ ap rest_of (e.is 0)))
-  header_none Misfit e = sym (by_version src ∙ ap fitting (behind_exact (codes "%PDF-1.") 0 src ∙ ap rest_of (e.is 0)))
+  pub header_none : ((rest : Bytes) → src ≡ codes "%PDF-1." ++ rest → ⊥) → false ≡ header_fits src
+  header_none h = sym (by_version src ∙ ap fitting (behind_other (codes "%PDF-1.") src h))
 
 -- what stands behind a word, cut
 abbrev cut : ℕ → Option Bytes → Option Bytes

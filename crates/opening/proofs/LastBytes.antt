@@ -6,7 +6,8 @@ use Rattle.format.specs.Bytes.{Bytes, is_digit, span, value}
 use Rattle.format.specs.Frames.{behind}
 use Rattle.format.specs.Sections.{back_eol, on, back_digits, last_offset}
 use Rattle.locality.proofs.Cases.{cases}
-use Rattle.opening.proofs.Backwards.{back_cr, back_other, back_lf_last, back_crlf, back_lf, back_none, behind_all, behind_none, behind_fits, behind_misfits, picked, back_on, back_start, back_on_fact, back_many, span_on, span_stops, span_none, span_place}
+use Rattle.opening.proofs.Backwards.{back_cr, back_other, back_lf_last, back_crlf, back_lf, back_none, behind_all, behind_none, behind_fits, behind_misfits, picked, back_on, back_start, back_on_fact, back_many, span_place}
+use Rattle.opening.proofs.Runs.{span_on, span_stops, span_none}
 
 -- the same bytes, as far as the first k go
 data Alike : ℕ → Bytes → Bytes → Type 0 where

@@ -1,5 +1,6 @@
 pub mod Pieces
 pub mod Places
+pub mod Runs
 pub mod Words
 pub mod Digits
 pub mod Entries

@@ -1,11 +1,16 @@
 -- What was read, and what was refused.
-use Rattle.std.proofs.Common.{◌≡◌, ℕ, IfOk, Err, Result, refl, ap, arith, MatchResult}
+use Rattle.std.proofs.Common.{◌≡◌, ℕ, IfOk, Ok, Err, IsErrAnd, Result, refl, ap, arith, MatchResult}
 use Rattle.faults.specs.declared.fault.Fault.{Fault}
 use Rattle.format.specs.Bytes.{Bytes, Got, ok, bad}
 use Rattle.opening.specs.Readings.{seen_as, Reads}
 
 pub reads_bad : {A B T : Type 0} (view : A → B) (got : Got A) (value : T → B) (place : T → ℕ) (base : ℕ) (src : Bytes) (from : ℕ) (r : Result T Fault) (f : Fault) → r ≡ Err f → seen_as view got ≡ bad f → Reads view got value place base src from r
 reads_bad view got value place base src from r f e is = rw e (record { is = is; within = tt })
+
+-- what the exit of a `?` returns
+pub exit_is : {T E : Type 0} (r : Result T E) (x : E) → IsErrAnd r (λ y. y ≡ x) → r ≡ Err x
+exit_is (Ok a) x w = absurd w
+exit_is (Err y) x w = ap Err w
 
 -- nothing is said of what was refused
 pub made_bad : {T E : Type 0} (P : T → Type 0) (r : Result T E) (f : E) → r ≡ Err f → IfOk r P

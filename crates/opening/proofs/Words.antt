@@ -1,16 +1,19 @@
 -- Ends of line and words, at a place of the window.
-use Rattle.std.proofs.Common.{◌≡◌, ℕ, suc, ◌+◌, ◌<◌, ◌≤◌, true, false, eqb, [], ◌∷◌, length, get_or, drop, Ok, Err, Result, IfOk, sym, refl, ap, ◌∙◌, arith}
+use Rattle.std.proofs.Common.{◌≡◌, ℕ, suc, ◌+◌, ◌<◌, ◌≤◌, true, false, cond, eqb, [], ◌∷◌, length, get_or, drop, Ok, Err, Result, IfOk, sym, refl, ap, ◌∙◌, arith}
 use Rattle.std.proofs.lemmas.List.{at_drop_all}
-use Rattle.std.proofs.lemmas.Bool.{eq-eqb, ne_eqb}
+use Rattle.std.specs.Prelude.{nat_eq}
+use Rattle.std.specs.List.{starts_with}
+use Rattle.std.proofs.lemmas.Bool.{eq-eqb, ne_eqb, eqb-true}
 use Rattle.format.specs.Bytes.{Bytes}
 use Rattle.format.specs.Space.{Eol, no_bytes, no_eol, eol_to, after_cr, eol_at}
-use Rattle.format.specs.Lines.{Piece, took, short, misfit, eol_piece, eol, exact}
+use Rattle.format.specs.Lines.{took, short, misfit, eol_piece, eol, exact}
 use Rattle.lexer.specs.declared.line.Lack.{Lack}
 use Rattle.lexer.specs.declared.line.Lack.TheVariants.{Short, Misfit}
 use Rattle.lexer.specs.Endings.{line_shown}
 use Rattle.locality.proofs.Cases.{cases}
+use Rattle.locality.proofs.Tests.{not_no}
 use Rattle.opening.specs.Parts.{passed, PassesWithin}
-use Rattle.opening.proofs.Places.{at_place, one_on}
+use Rattle.opening.proofs.Places.{at_place, one_on, place_on}
 
 -- the same end of line, counted from a place further in front
 abbrev shifted : ℕ → Eol → Eol
@@ -47,47 +50,38 @@ pub eol_within : (src : Bytes) (p : ℕ) (r : Result ℕ Lack) → IfOk r (λ q.
 eol_within src p (Ok q) (a, b) = (omega arith, b)
 eol_within src p (Err e) h = tt
 
--- One byte of a word.
-module _ (w : ℕ) (ws : Bytes) (p : ℕ) where
-  exact_none : exact (w ∷ ws) p [] ≡ short
-  unfolding exact
-  exact_none = refl
-
-  exact_fits : (x : ℕ) (xs : Bytes) → eqb w x ≡ true → exact (w ∷ ws) p (x ∷ xs) ≡ exact ws (suc p) xs
-  unfolding exact
-  exact_fits x xs e = rw (e, exact)
-
-  exact_misfits : (x : ℕ) (xs : Bytes) → eqb w x ≡ false → exact (w ∷ ws) p (x ∷ xs) ≡ misfit
-  unfolding exact
-  exact_misfits x xs e = rw (e, exact)
-
-exact_all : (p : ℕ) (xs : Bytes) → exact [] p xs ≡ took tt p xs
+-- A word in front of bytes, by whether they begin with it, and it with them.
+exact_by : (word xs : Bytes) (p : ℕ) → exact word p xs ≡ cond (starts_with nat_eq xs word) (took tt (p + length word) (drop (length word) xs)) (cond (starts_with nat_eq word xs) short misfit)
 unfolding exact
-exact_all p xs = refl
+exact_by [] xs p = let z : p ≡ p + 0 = omega arith in ap (λ (q : ℕ). took tt q xs) z
+exact_by (w ∷ ws) [] p = refl
+exact_by (w ∷ ws) (x ∷ xs) p =
+    cases (eqb w x)
+    (λ e.
+    let f : eqb x w ≡ true = eq-eqb x w (sym (eqb-true w x e)) in
+    let z : suc p + length ws ≡ p + suc (length ws) = omega arith in
+    rw (e, f, exact)
+    (exact_by ws xs (suc p)
+    ∙ ap (λ (q : ℕ). cond (starts_with nat_eq xs ws) (took tt q (drop (length ws) xs)) (cond (starts_with nat_eq ws xs) short misfit)) z))
+    (λ e.
+    let f : eqb x w ≡ false = ne_eqb x w (λ g. not_no (eqb w x) e (eq-eqb w x (sym g))) in
+    rw (e, f, exact))
 
--- A word from one of its places on, at a place of the window.
-module _ (word src : Bytes) (i p base : ℕ) {z : Piece Unit} (was : exact (drop i word) (base + p) (drop p src) ≡ z) where
-  pub exact_ends : length word ≤ i → z ≡ took tt (base + p) (drop p src)
-  exact_ends h = sym was ∙ at_drop_all (λ w. exact w (base + p) (drop p src)) word i h ∙ exact_all _ _
+module _ (word src : Bytes) (p base : ℕ) where
+  pub exact_took : true ≡ starts_with nat_eq (drop p src) word → exact word (base + p) (drop p src) ≡ took tt (base + (p + length word)) (drop (p + length word) src)
+  exact_took e =
+      exact_by word (drop p src) (base + p)
+      ∙ ap (λ b. cond b (took tt (base + p + length word) (drop (length word) (drop p src))) (cond (starts_with nat_eq word (drop p src)) short misfit)) (sym e)
+      ∙ place_on (took tt) src base p (length word)
 
-  pub exact_short : i < length word → length src ≤ p → z ≡ short
-  exact_short h l =
-      sym was
-      ∙ at_place (λ w. exact w (base + p) (drop p src)) word i h
-      ∙ at_drop_all (exact (get_or word i 0 ∷ drop (i + 1) word) (base + p)) src p l
-      ∙ exact_none _ _ _
+  pub exact_short : false ≡ starts_with nat_eq (drop p src) word → true ≡ starts_with nat_eq word (drop p src) → exact word (base + p) (drop p src) ≡ short
+  exact_short e f =
+      exact_by word (drop p src) (base + p)
+      ∙ ap (λ b. cond b (took tt (base + p + length word) (drop (length word) (drop p src))) (cond (starts_with nat_eq word (drop p src)) short misfit)) (sym e)
+      ∙ ap (λ b. cond b short misfit) (sym f)
 
-  pub exact_misfit : i < length word → p < length src → (get_or src p 0 ≡ get_or word i 0 → ⊥) → z ≡ misfit
-  exact_misfit h l e =
-      sym was
-      ∙ at_place (λ w. exact w (base + p) (drop p src)) word i h
-      ∙ at_place (exact (get_or word i 0 ∷ drop (i + 1) word) (base + p)) src p l
-      ∙ exact_misfits _ _ _ _ _ (ne_eqb _ _ (λ f. e (sym f)))
-
-  pub exact_more : i < length word → p < length src → get_or src p 0 ≡ get_or word i 0 → exact (drop (i + 1) word) (base + (p + 1)) (drop (p + 1) src) ≡ z
-  exact_more h l e =
-      sym (at_place (λ w. exact w (base + p) (drop p src)) word i h
-      ∙ at_place (exact (get_or word i 0 ∷ drop (i + 1) word) (base + p)) src p l
-      ∙ exact_fits _ _ _ _ _ (eq-eqb _ _ (sym e))
-      ∙ one_on (λ q. exact (drop (i + 1) word) q (drop (p + 1) src)) base p)
-      ∙ was
+  pub exact_misfit : false ≡ starts_with nat_eq (drop p src) word → false ≡ starts_with nat_eq word (drop p src) → exact word (base + p) (drop p src) ≡ misfit
+  exact_misfit e f =
+      exact_by word (drop p src) (base + p)
+      ∙ ap (λ b. cond b (took tt (base + p + length word) (drop (length word) (drop p src))) (cond (starts_with nat_eq word (drop p src)) short misfit)) (sym e)
+      ∙ ap (λ b. cond b short misfit) (sym f)

@@ -1,5 +1,5 @@
 -- The rows that were read of a section.
-use Rattle.std.specs.Prelude.{ℕ, ◌+◌, ◌*◌, ◌^◌, ◌<◌, ◌≤◌, List, length, vec_items}
+use Rattle.std.specs.Prelude.{ℕ, ◌*◌, ◌≤◌, List, length, vec_items}
 use Rattle.entries.specs.declared.entry.Row.{Row}
 use Rattle.entries.specs.Rows.{rows_of}
 use Rattle.format.specs.Bytes.{Bytes}
@@ -18,9 +18,8 @@ listed_by rows = rows_of (rows_held rows)
 abbrev pub HeldBefore : ℕ → Rows → Type 0
 HeldBefore p rows = 20 * length (rows_held rows) ≤ p
 
--- A window of a section, which begins at the place base of the file, a place in it, and the rows that were read before.
-pub record Window (base : ℕ) (src : Bytes) (from : ℕ) (rows : Rows) : Type 0 where
-  pub counts : base + length src < 2 ^ 64
+-- The bytes of a section's window, a place in it, and the rows that were read before.
+pub record Window (src : Bytes) (from : ℕ) (rows : Rows) : Type 0 where
   pub few : length src ≤ window_bytes
   pub place : from ≤ length src
   pub held : HeldBefore from rows

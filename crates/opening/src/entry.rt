@@ -8,7 +8,7 @@ use crate::lines::{digits_of, exact};
 use crate::part::Lack;
 pub use entries::entry::Entry;
 
-// `n` or `f`.
+// `n`, for an entry in use, or `f`.
 fn use_mark(src: &[u8], from: usize) -> Result<(bool, usize), Lack>
     requires { from ≤ length src.now }
     ensures { Takes (λ b. b) use_mark src.now from result }
@@ -26,6 +26,7 @@ fn use_mark(src: &[u8], from: usize) -> Result<(bool, usize), Lack>
 }
 
 // The two last bytes of an entry: space CR, space LF or CR LF.
+#[tactic(auto, using(std::proofs::lemmas::Bool::Decides::nat_tests), unfolding(format::specs::Lines::slot_ends))]
 fn ends_entry(x: u8, y: u8) -> bool
     ensures { result ≡ slot_ends x y }
 {
@@ -61,6 +62,23 @@ fn entry_end(src: &[u8], from: usize) -> Result<usize, Lack>
     Ok(from + 2)
 }
 
+// The entry that has these ten digits: an object's offset, or the next free number.
+fn entry_of(in_use: bool, field: u64, generation: u32) -> Entry
+    ensures { slot_of result ≡ record { in_use = in_use; field = field; gen = generation } }
+{
+    if in_use {
+        Entry::Used {
+            offset: field,
+            generation,
+        }
+    } else {
+        Entry::Free {
+            next: field,
+            generation,
+        }
+    }
+}
+
 // The 20 bytes of an entry.
 pub fn entry_at(src: &[u8], from: usize) -> Result<(Entry, usize), Lack>
     requires { from ≤ length src.now }
@@ -72,13 +90,5 @@ pub fn entry_at(src: &[u8], from: usize) -> Result<(Entry, usize), Lack>
     let mark_start = exact(src, generation_end, b" ")?;
     let (in_use, mark_end) = use_mark(src, mark_start)?;
     let end = entry_end(src, mark_end)?;
-    let generation = generation as u32;
-    Ok((
-        Entry {
-            in_use,
-            field,
-            generation,
-        },
-        end,
-    ))
+    Ok((entry_of(in_use, field, generation as u32), end))
 }

@@ -1,11 +1,10 @@
 // The parts of a line. Each reader is given the window and the place in it where the part starts.
-ghost use Rattle.std.specs.Prelude.{◌≡◌, ◌+◌, ◌-◌, ◌*◌, ◌^◌, ◌<◌, ◌≤◌, true, length};
-ghost use Rattle.format.specs.Bytes.{is_digit};
+ghost use Rattle.std.specs.Prelude.{◌^◌, ◌≤◌, length};
 ghost use Rattle.format.specs.Lines.{eol, exact, exact_line, digits, digits_of, sub_line, number_line};
 ghost use Rattle.opening.specs.Parts.{Passes, Takes, Below, BothBelow};
 
+use crate::numbers::{digits_in_front, number};
 use crate::part::Lack;
-use lexer::bytes::is_digit;
 use lexer::line::line_end;
 
 // A number of a line has one to ten digits.
@@ -24,17 +23,15 @@ pub fn exact(src: &[u8], from: usize, word: &[u8]) -> Result<usize, Lack>
     requires { from ≤ length src.now }
     ensures { Passes (exact word.now) src.now from result }
 {
-    let mut at = from;
-    for b in word {
-        if at == src.len() {
-            return Err(Lack::Short);
-        }
-        if src[at] != *b {
-            return Err(Lack::Misfit);
-        }
-        at += 1;
+    let rest = &src[from..];
+    if rest.starts_with(word) {
+        return Ok(from + word.len());
     }
-    Ok(at)
+    // where the bytes end in the word, they are its front
+    if word.starts_with(rest) {
+        return Err(Lack::Short);
+    }
+    Err(Lack::Misfit)
 }
 
 // These bytes, then an end of line.
@@ -46,40 +43,21 @@ pub fn exact_line(src: &[u8], from: usize, word: &[u8]) -> Result<usize, Lack>
     eol(src, at)
 }
 
-// The number behind one more digit.
-fn with_digit(value: u64, b: u8) -> u64
-    requires { (value < 1000000000) × (is_digit b ≡ true) }
-    ensures { result ≡ value * 10 + (b - 48) }
-{
-    value * 10 + (b - b'0') as u64
-}
-
 // The number that one to ten digits spell, and the place behind them.
 pub fn digits(src: &[u8], from: usize) -> Result<(u64, usize), Lack>
     requires { from ≤ length src.now }
     ensures is { Takes (λ n. n) digits src.now from result }
     ensures small { Below (10 ^ 10) result }
 {
-    let mut at = from;
-    let mut value = 0;
-    while at < src.len() {
-        let b = src[at];
-        if !is_digit(b) {
-            if at == from {
-                return Err(Lack::Misfit);
-            }
-            return Ok((value, at));
-        }
-        if at - from == MOST_DIGITS {
-            return Err(Lack::Misfit);
-        }
-        value = with_digit(value, b);
-        at += 1;
-    }
-    if at == from {
+    if from == src.len() {
         return Err(Lack::Short);
     }
-    Ok((value, at))
+    let rest = &src[from..];
+    let found = digits_in_front(rest);
+    if found == 0 || found > MOST_DIGITS {
+        return Err(Lack::Misfit);
+    }
+    Ok((number(&rest[..found]), from + found))
 }
 
 // The number that exactly so many digits spell, and the place behind them.
@@ -88,22 +66,15 @@ pub fn digits_of(count: usize, src: &[u8], from: usize) -> Result<(u64, usize), 
     ensures is { Takes (λ n. n) (digits_of count 0) src.now from result }
     ensures small { Below (10 ^ count) result }
 {
-    let mut at = from;
-    let mut value = 0;
-    let mut left = count;
-    while left > 0 {
-        if at == src.len() {
-            return Err(Lack::Short);
-        }
-        let b = src[at];
-        if !is_digit(b) {
-            return Err(Lack::Misfit);
-        }
-        value = with_digit(value, b);
-        at += 1;
-        left -= 1;
+    let rest = &src[from..];
+    let found = digits_in_front(rest);
+    if found >= count {
+        return Ok((number(&rest[..count]), from + count));
     }
-    Ok((value, at))
+    if found == rest.len() {
+        return Err(Lack::Short);
+    }
+    Err(Lack::Misfit)
 }
 
 // A subsection's line: the first number and the count, and the place behind.

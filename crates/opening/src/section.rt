@@ -6,9 +6,9 @@ ghost use Rattle.format.specs.Sections.{section};
 ghost use Rattle.opening.specs.Sections.{SectionRead};
 
 use crate::lines::{exact, exact_line};
-use crate::placed::{placed, tail};
 use crate::rows::Rows;
 use crate::subsections::read_subsections;
+use crate::view::View;
 use faults::fault::Fault;
 use lexer::space::skip_space;
 use objects::dictionary::dictionary_at;
@@ -29,18 +29,14 @@ pub fn read_section(base: usize, src: &[u8], rows: &mut Rows) -> Result<Section,
     requires few { length src.now ≤ window_bytes }
     ensures { MatchResult result (λ s. SectionRead base src.now s rows.new) (λ f. section base src.now ≡ bad f) }
 {
+    let view = View { base, src };
     rows.clear();
-    let start = placed(base, src, 0, exact_line(src, 0, b"xref"))?;
-    let subsections = read_subsections(base, src, start, rows)?;
-    let word_end = placed(
-        base,
-        src,
-        subsections.end,
-        exact(src, subsections.end, b"trailer"),
-    )?;
+    let start = view.placed(0, exact_line(src, 0, b"xref"))?;
+    let subsections = read_subsections(&view, start, rows)?;
+    let word_end = view.placed(subsections.end, exact(src, subsections.end, b"trailer"))?;
     let dictionary = dictionary_at(base, src, word_end)?;
     let tail_start = skip_space(src, dictionary.end);
-    let end = tail(base, src, tail_start, base as u64)?;
+    let end = view.tail(tail_start, base as u64)?;
     Ok(Section {
         end,
         mark: dictionary.mark,

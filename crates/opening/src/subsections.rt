@@ -8,8 +8,8 @@ ghost use Rattle.opening.specs.Subsections.{sub_behind, sub_here, all_behind, al
 
 use crate::entry::entry_at;
 use crate::lines::subsection_line;
-use crate::placed::placed;
 use crate::rows::Rows;
+use crate::view::View;
 use entries::entry::Row;
 use faults::fault::Fault;
 use faults::layer::Layer;
@@ -33,22 +33,21 @@ pub struct Subsections {
 
 // The entries of a subsection, whose numbers count up from the first: the place behind them.
 fn read_entries(
-    base: usize,
-    src: &[u8],
+    view: &View<'_>,
     from: usize,
     first: u64,
     count: u64,
     rows: &mut Rows,
 ) -> Result<usize, Fault>
-    requires window { Window base src.now from rows.old }
+    requires window { Window view.now.src.now from rows.old }
     requires numbers { first + count < 2 ^ 64 }
-    ensures is { Reads (λ ss. listed_by rows.old ++ ss) (slots count first (base + from) (drop from src.now)) (λ _. listed_by rows.new) (λ q. q) base src.now from result }
+    ensures is { Reads (λ ss. listed_by rows.old ++ ss) (slots count first (view.now.base + from) (drop from view.now.src.now)) (λ _. listed_by rows.new) (λ q. q) view.now.base view.now.src.now from result }
     ensures held { IfOk result (λ q. HeldBefore q rows.new) }
     ensures long { IfOk result (λ q. from + 20 * count ≤ q) }
 {
     let mut at = from;
     for i in 0..count {
-        let (entry, end) = placed(base, src, at, entry_at(src, at))?;
+        let (entry, end) = view.placed(at, entry_at(view.src, at))?;
         let row = Row {
             number: first + i,
             entry,
@@ -61,23 +60,22 @@ fn read_entries(
 
 // A subsection from the number `low` up, with at least one entry.
 fn read_subsection(
-    base: usize,
-    src: &[u8],
+    view: &View<'_>,
     from: usize,
     low: u64,
     rows: &mut Rows,
 ) -> Result<Subsection, Fault>
-    requires { Window base src.now from rows.old }
-    ensures is { Reads (sub_behind (listed_by rows.old)) (sub low (base + from) (drop from src.now)) (sub_here (listed_by rows.new)) (λ s. s.end) base src.now from result }
+    requires { Window view.now.src.now from rows.old }
+    ensures is { Reads (sub_behind (listed_by rows.old)) (sub low (view.now.base + from) (drop from view.now.src.now)) (sub_here (listed_by rows.new)) (λ s. s.end) view.now.base view.now.src.now from result }
     ensures held { IfOk result (λ s. HeldBefore s.end rows.new) }
     ensures long { IfOk result (λ s. from < s.end) }
     ensures small { IfOk result (λ s. (s.first < 10 ^ 10) × (s.count < 10 ^ 10)) }
 {
-    let ((first, count), line_end) = placed(base, src, from, subsection_line(src, from))?;
+    let ((first, count), line_end) = view.placed(from, subsection_line(view.src, from))?;
     if first < low || count == 0 {
-        return Err(Fault::met(Reason::BadLine, Layer::Section, base + from));
+        return Err(Fault::met(Reason::BadLine, Layer::Section, view.base + from));
     }
-    let end = read_entries(base, src, line_end, first, count, rows)?;
+    let end = read_entries(view, line_end, first, count, rows)?;
     Ok(Subsection { first, count, end })
 }
 
@@ -89,20 +87,14 @@ fn begins_digit(src: &[u8], from: usize) -> bool
 }
 
 // The subsections behind the first one, from the number `low` up: the place behind them.
-fn read_more(
-    base: usize,
-    src: &[u8],
-    from: usize,
-    low: u64,
-    rows: &mut Rows,
-) -> Result<usize, Fault>
-    requires { Window base src.now from rows.old }
-    ensures { Reads (λ ss. listed_by rows.old ++ listed ss) (subs turns low (base + from) (drop from src.now)) (λ _. listed_by rows.new) (λ q. q) base src.now from result }
+fn read_more(view: &View<'_>, from: usize, low: u64, rows: &mut Rows) -> Result<usize, Fault>
+    requires { Window view.now.src.now from rows.old }
+    ensures { Reads (λ ss. listed_by rows.old ++ listed ss) (subs turns low (view.now.base + from) (drop from view.now.src.now)) (λ _. listed_by rows.new) (λ q. q) view.now.base view.now.src.now from result }
 {
     let mut at = from;
     let mut next = low;
-    while begins_digit(src, at) {
-        let one = read_subsection(base, src, at, next, rows)?;
+    while begins_digit(view.src, at) {
+        let one = read_subsection(view, at, next, rows)?;
         next = one.first + one.count;
         at = one.end;
     }
@@ -117,17 +109,12 @@ fn is_one_from_zero(src: &[u8], first: u64, end: usize) -> bool
 }
 
 // One subsection and more, ascending, none over another.
-pub fn read_subsections(
-    base: usize,
-    src: &[u8],
-    from: usize,
-    rows: &mut Rows,
-) -> Result<Subsections, Fault>
-    requires { Window base src.now from rows.old }
-    ensures { Reads (all_behind (listed_by rows.old)) (all_subs (base + from) (drop from src.now)) (all_here (listed_by rows.new)) (λ s. s.end) base src.now from result }
+pub fn read_subsections(view: &View<'_>, from: usize, rows: &mut Rows) -> Result<Subsections, Fault>
+    requires { Window view.now.src.now from rows.old }
+    ensures { Reads (all_behind (listed_by rows.old)) (all_subs (view.now.base + from) (drop from view.now.src.now)) (all_here (listed_by rows.new)) (λ s. s.end) view.now.base view.now.src.now from result }
 {
-    let one = read_subsection(base, src, from, 0, rows)?;
-    let one_from_zero = is_one_from_zero(src, one.first, one.end);
-    let end = read_more(base, src, one.end, one.first + one.count, rows)?;
+    let one = read_subsection(view, from, 0, rows)?;
+    let one_from_zero = is_one_from_zero(view.src, one.first, one.end);
+    let end = read_more(view, one.end, one.first + one.count, rows)?;
     Ok(Subsections { end, one_from_zero })
 }

@@ -16,14 +16,11 @@ use objects::shape::{Shape, Value};
 fn kind(value: Option<Value>) -> Kind
     ensures { kind_of result ≡ kind_in (shape_in value) }
 {
-    match value {
-        None => Kind::Absent,
-        Some(value) => match value.shape {
-            Shape::Null => Kind::Absent,
-            Shape::Integer(z) => Kind::Number(z),
-            Shape::Reference { number, generation } => Kind::Reference(number, generation as u32),
-            _ => Kind::Other,
-        },
+    match value.map(|value| value.shape) {
+        None | Some(Shape::Null) => Kind::Absent,
+        Some(Shape::Integer(z)) => Kind::Number(z),
+        Some(Shape::Reference { number, generation }) => Kind::Reference(number, generation as u32),
+        Some(_) => Kind::Other,
     }
 }
 
@@ -34,50 +31,44 @@ fn kind_at(src: &[u8], inside: usize, name: &[u8]) -> Kind
     kind(value_of(src, inside, name))
 }
 
+#[tactic(auto, unfolding(format::specs::Chain::is_absent))]
 fn is_absent(kind: Kind) -> bool
     ensures { result ≡ is_absent (kind_of kind) }
 {
-    match kind {
-        Kind::Absent => true,
-        Kind::Number(_) => false,
-        Kind::Reference(_, _) => false,
-        Kind::Other => false,
-    }
+    kind == Kind::Absent
 }
 
 // A direct integer.
+#[tactic(auto, unfolding(format::specs::Chain::size_of))]
 fn size_of(kind: Kind) -> Option<i64>
     ensures { result ≡ size_of (kind_of kind) }
 {
     match kind {
         Kind::Number(z) => Some(z),
-        Kind::Absent => None,
-        Kind::Reference(_, _) => None,
-        Kind::Other => None,
+        _ => None,
     }
 }
 
 // A direct integer, or nothing.
+#[tactic(auto, unfolding(format::specs::Chain::prev_of))]
 fn prev_of(kind: Kind) -> Option<Option<i64>>
     ensures { result ≡ prev_of (kind_of kind) }
 {
     match kind {
         Kind::Absent => Some(None),
         Kind::Number(z) => Some(Some(z)),
-        Kind::Reference(_, _) => None,
-        Kind::Other => None,
+        _ => None,
     }
 }
 
 // A reference.
+#[tactic(auto, unfolding(format::specs::Chain::root_of))]
 fn root_of(kind: Kind) -> Option<(u32, u32)>
     ensures { result ≡ root_of (kind_of kind) }
 {
     match kind {
         Kind::Reference(number, generation) => Some((number, generation)),
-        Kind::Absent => None,
-        Kind::Number(_) => None,
-        Kind::Other => None,
+        _ => None,
     }
 }
 

@@ -65,7 +65,7 @@ row_at k n i (r ∷ rs) e d =
 
 -- Root by its row, and in the table before
 pub root_listed : (root gen i : ℕ) (rows : List Row) (d : Row) (old : List State) → Some i ≡ place_from 0 root (numbers_of rows) →
-    root_fits root gen (rows_of rows) old ≡ ((get_or rows i d).entry.in_use && eqb (get_or rows i d).entry.generation gen)
+    root_fits root gen (rows_of rows) old ≡ ((slot_of (get_or rows i d).entry).in_use && eqb (slot_of (get_or rows i d).entry).gen gen)
 unfolding root_fits
 root_listed root gen i rows d old e =
     let w = row_at 0 root i rows (sym e) d in

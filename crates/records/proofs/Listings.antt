@@ -9,6 +9,7 @@ use Rattle.format.specs.Failures.{chain_fault}
 use Rattle.format.specs.Lines.{Slot}
 use Rattle.format.specs.Revisions.{find, highest, under_size, slot_fits, slots_fit, covered}
 use Rattle.format.specs.Sections.{Listed}
+use Rattle.entries.specs.declared.entry.Entry.TheVariants.{Used}
 use Rattle.entries.specs.declared.entry.Row.{Row}
 use Rattle.entries.specs.Rows.{rows_of, slot_of}
 use Rattle.locality.proofs.Cases.{cases}
@@ -18,7 +19,7 @@ use Rattle.tables.proofs.Finds.{some_none, true_false}
 
 -- the row that a read past the end would give
 abbrev pub no_row : Row
-no_row = record { number = 0; entry = record { in_use = false; field = 0; generation = 0 } }
+no_row = record { number = 0; entry = Used 0 0 }
 
 module _ (rows : List Row) (i : ℕ) (d : Row) (h : i < length rows) where
   -- the number bound

@@ -1,5 +1,5 @@
 -- The objects of a section, row by row.
-use Rattle.std.proofs.Common.{◌≡◌, ℕ, zero, suc, ◌+◌, ◌-◌, ◌^◌, ◌<◌, ◌≤◌, min, true, false, ltb, leb, List, [], ◌∷◌, ◌++◌, length, get_or, take, drop, ℤ, IfOk, Ok, Err, Result, sym, refl, ap, ◌∙◌, append_assoc, arith, length-drop, length-take, ltb-true, eq-eqb}
+use Rattle.std.proofs.Common.{◌≡◌, ℕ, zero, suc, ◌+◌, ◌-◌, ◌^◌, ◌<◌, ◌≤◌, min, true, ltb, leb, List, [], ◌∷◌, ◌++◌, length, get_or, take, drop, ℤ, IfOk, Ok, Err, Result, sym, refl, ap, ◌∙◌, append_assoc, arith, length-drop, length-take, ltb-true, eq-eqb}
 use Rattle.std.proofs.lemmas.List.{append-nil, at_drop_more, at_drop_all, drop-drop, take_more, take_all, length-take-le}
 use Rattle.faults.specs.declared.fault.Fault.{Fault}
 use Rattle.faults.specs.declared.reason.Reason.TheVariants.{ChainRule}
@@ -9,6 +9,7 @@ use Rattle.format.specs.Chain.{Answer, also, window_bytes}
 use Rattle.format.specs.Failures.{chain_fault}
 use Rattle.format.specs.Frames.{Framed, frame}
 use Rattle.format.specs.Revisions.{State, used, free, slot_fits, slots_fit, frame_in, framed_state, state_of, states_of}
+use Rattle.format.specs.Writing.{used_slot, free_slot}
 use Rattle.entries.specs.declared.cell.Cell.{Cell}
 use Rattle.entries.specs.declared.entry.Row.{Row}
 use Rattle.entries.specs.Cells.{part, state_in, EndsBy, AllEndBy}
@@ -37,42 +38,43 @@ window_part file at m s e a b =
     front_window (drop at file) m (s - at) (e - s) (omega arith)
     ∙ ap (take (e - s)) (drop-drop (s - at) at file ∙ ap (λ (k : ℕ). drop k file) z)
 
-module _ (file : Bytes) (off : ℕ) (row : Row) (src : Bytes) (u : row.entry.in_use ≡ true) (w : src ≡ take (min (off - row.entry.field) window_bytes) (drop row.entry.field file)) where
+-- the entry of the number n in use at a place, with the generation g, and the window from that place on
+module _ (file : Bytes) (off n at g : ℕ) (src : Bytes) (w : src ≡ take (min (off - at) window_bytes) (drop at file)) where
   -- an entry in use is what its frame says
-  by_frame : (x : Got Framed) → frame row.entry.field src ≡ x → state_of file off row.number (slot_of row.entry) ≡ framed_state off row.number (slot_of row.entry) x
+  by_frame : (x : Got Framed) → frame at src ≡ x → state_of file off n (used_slot at g) ≡ framed_state off n (used_slot at g) x
   unfolding state_of frame_in framed_state
   by_frame x e =
-      let z : min window_bytes (off - row.entry.field) ≡ min (off - row.entry.field) window_bytes = omega arith in
-      rw (u, state_of) (ap (framed_state off row.number (slot_of row.entry)) (ap (λ (m : ℕ). frame row.entry.field (take m (drop row.entry.field file))) z ∙ ap (frame row.entry.field) (sym w) ∙ e))
+      let z : min window_bytes (off - at) ≡ min (off - at) window_bytes = omega arith in
+      ap (framed_state off n (used_slot at g)) (ap (λ (m : ℕ). frame at (take m (drop at file))) z ∙ ap (frame at) (sym w) ∙ e)
 
-  pub frame_refused : (f : Fault) → framed_at row.entry.field src (Err f) ≡ frame row.entry.field src → state_of file off row.number (slot_of row.entry) ≡ Err (of_object row.number f)
+  pub frame_refused : (f : Fault) → framed_at at src (Err f) ≡ frame at src → state_of file off n (used_slot at g) ≡ Err (of_object n f)
   unfolding framed_state
   frame_refused f e = by_frame (bad f) (sym e)
 
-  same_body : (f : Frame) → FrameLies row.entry.field (length src) f → take (f.end - f.start) (drop (f.start - row.entry.field) src) ≡ part file f.start f.end
+  same_body : (f : Frame) → FrameLies at (length src) f → take (f.end - f.start) (drop (f.start - at) src) ≡ part file f.start f.end
   same_body f l =
-      let q = ap length w ∙ length-take (min (off - row.entry.field) window_bytes) (drop row.entry.field file) in
-      ap (λ (t : Bytes). take (f.end - f.start) (drop (f.start - row.entry.field) t)) w
-      ∙ window_part file row.entry.field (min (off - row.entry.field) window_bytes) f.start f.end l.0 (omega arith)
+      let q = ap length w ∙ length-take (min (off - at) window_bytes) (drop at file) in
+      ap (λ (t : Bytes). take (f.end - f.start) (drop (f.start - at) t)) w
+      ∙ window_part file at (min (off - at) window_bytes) f.start f.end l.0 (omega arith)
 
-  pub frame_read : (f : Frame) (r : Result Cell Fault) → framed_at row.entry.field src (Ok f) ≡ frame row.entry.field src → FrameLies row.entry.field (length src) f → FramedCell off row f r →
-      state_of file off row.number (slot_of row.entry) ≡ state_read file r
+  pub frame_read : (f : Frame) (r : Result Cell Fault) → framed_at at src (Ok f) ≡ frame at src → FrameLies at (length src) f → FramedCell off n g f r →
+      state_of file off n (used_slot at g) ≡ state_read file r
   unfolding framed_state
   frame_read f (Ok c) e l k =
       by_frame _ (sym e)
-      ∙ rw (eq-eqb f.number row.number k.0) (rw (eq-eqb f.generation row.entry.generation k.1) (rw k.2 (ap (λ (b : Bytes). Ok (used row.entry.generation b)) (same_body f l))))
+      ∙ rw (eq-eqb f.number n k.0) (rw (eq-eqb f.generation g k.1) (rw k.2 (ap (λ (b : Bytes). Ok (used g b)) (same_body f l))))
   frame_read f (Err x) e l k = by_frame _ (sym e) ∙ rw (k.0, k.1) refl
 
-  pub frame_ends : (f : Frame) (r : Result Cell Fault) → FrameLies row.entry.field (length src) f → FramedCell off row f r → row.entry.field < off → IfOk r (EndsBy off)
+  pub frame_ends : (f : Frame) (r : Result Cell Fault) → FrameLies at (length src) f → FramedCell off n g f r → at < off → IfOk r (EndsBy off)
   frame_ends f (Ok c) l k h =
-      let q = ap length w ∙ length-take (min (off - row.entry.field) window_bytes) (drop row.entry.field file) in
+      let q = ap length w ∙ length-take (min (off - at) window_bytes) (drop at file) in
       rw k.2 (l.1, omega (arith, l.2, l.3))
   frame_ends f (Err x) l k h = tt
 
 -- a free entry is what it says itself
-pub free_read : (file : Bytes) (off : ℕ) (row : Row) → row.entry.in_use ≡ false → state_of file off row.number (slot_of row.entry) ≡ Ok (free row.entry.generation row.entry.field)
+pub free_read : (file : Bytes) (off n next g : ℕ) → state_of file off n (free_slot next g) ≡ Ok (free g next)
 unfolding state_of
-free_read file off row e = rw (e, state_of) refl
+free_read file off n next g = refl
 
 -- the answers of the rows before are those read, and those of the others are still to come
 abbrev pub ReadSo : Bytes → ℕ → List Row → ℕ → List Cell → Type 0
@@ -137,11 +139,12 @@ slots_row off size [] i d e h = absurd (omega arith)
 slots_row off size (r ∷ rs) zero d e h = (must_ok (slot_fits off size r.number (slot_of r.entry)) (chain_fault ChainRule off r.number) (λ _. slots_fit off size (rows_of rs)) tt e).0
 slots_row off size (r ∷ rs) (suc i) d e h = slots_row off size rs i d (must_ok (slot_fits off size r.number (slot_of r.entry)) (chain_fault ChainRule off r.number) (λ _. slots_fit off size (rows_of rs)) tt e).1 (omega arith)
 
-points_below : (off : ℕ) (size : ℤ) (rows : List Row) (i : ℕ) (d : Row) → slots_fit off size (rows_of rows) ≡ Ok tt → i < length rows → (get_or rows i d).entry.in_use ≡ true → (get_or rows i d).entry.field < off
+points_below : (off : ℕ) (size : ℤ) (rows : List Row) (i : ℕ) (d : Row) → slots_fit off size (rows_of rows) ≡ Ok tt → i < length rows → (slot_of (get_or rows i d).entry).in_use ≡ true → (slot_of (get_or rows i d).entry).field < off
 points_below off size rows i d e h u =
     let r = get_or rows i d in
     let s = sym (used_rule off size r.number (slot_of r.entry) u) ∙ slots_row off size rows i d e h in
-    ltb-true r.entry.field off (and_right (leb r.entry.generation 65534) (ltb r.entry.field off) (and_right (leb 1 r.number) _ s))
+    let t = slot_of r.entry in
+    ltb-true t.field off (and_right (leb t.gen 65534) (ltb t.field off) (and_right (leb 1 r.number) _ s))
 
 ends_push : (off : ℕ) (cells : List Cell) (c : Cell) → AllEndBy off cells → EndsBy off c → AllEndBy off (cells ++ c ∷ [])
 ends_push off [] c a e = (e, tt)
@@ -152,6 +155,6 @@ module _ (file : Bytes) (off : ℕ) (rows : List Row) (i : ℕ) (d : Row) (h : i
   pub read_more : length cells ≡ i → state_of file off (get_or rows i d).number (slot_of (get_or rows i d).entry) ≡ Ok (state_in file c) → ReadSo file off rows i cells → ReadSo file off rows (i + 1) after
   read_more l q so = rw e (read_on file off rows i d h cells c l q so)
 
-  pub ends_more : ((size : ℤ) → slots_fit off size (rows_of rows) ≡ Ok tt → AllEndBy off cells) → (((get_or rows i d).entry.in_use ≡ true → (get_or rows i d).entry.field < off) → EndsBy off c) →
+  pub ends_more : ((size : ℤ) → slots_fit off size (rows_of rows) ≡ Ok tt → AllEndBy off cells) → (((slot_of (get_or rows i d).entry).in_use ≡ true → (slot_of (get_or rows i d).entry).field < off) → EndsBy off c) →
       (size : ℤ) → slots_fit off size (rows_of rows) ≡ Ok tt → AllEndBy off after
   ends_more all one size q = rw e (ends_push off cells c (all size q) (one (points_below off size rows i d q h)))

@@ -19,10 +19,10 @@ abbrev pub state_read : Bytes → Result Cell Fault → Answer State
 state_read file (Ok c) = Ok (state_in file c)
 state_read file (Err f) = Err f
 
--- the cell of an object that was read for a row: it bears the row's number and generation
-abbrev pub FramedCell : ℕ → Row → Frame → Result Cell Fault → Type 0
-FramedCell off row f (Ok c) = (f.number ≡ row.number) × (f.generation ≡ row.entry.generation) × (c ≡ Used row.entry.generation f.start f.end)
-FramedCell off row f (Err e) = (f.number == row.number && (f.generation == row.entry.generation) ≡ false) × (e ≡ chain_fault ChainRule off row.number)
+-- the cell of an object that was read for a row with the number n and the generation g: it bears both
+abbrev pub FramedCell : (off n g : ℕ) → Frame → Result Cell Fault → Type 0
+FramedCell off n g f (Ok c) = (f.number ≡ n) × (f.generation ≡ g) × (c ≡ Used g f.start f.end)
+FramedCell off n g f (Err e) = (f.number == n && (f.generation == g) ≡ false) × (e ≡ chain_fault ChainRule off n)
 
 -- the rows of a section at `off` have these cells, which end before it if the entries fit
 pub record CellsOf (file : Bytes) (off : ℕ) (rows : List Row) (cells : List Cell) : Type 0 where

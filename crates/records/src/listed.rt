@@ -8,42 +8,43 @@ ghost use Rattle.records.specs.Objects.{FramedCell, ReadsObjects, state_read};
 use crate::rows::broken_rule;
 use crate::window::Window;
 use entries::cell::Cell;
-use entries::entry::Row;
+use entries::entry::{Entry, Row};
 use faults::fault::Fault;
 use objects::frame::{Frame, read_frame_at};
 use stores::store::Store;
 
 // The cell of an object that was read for a row of a section at `offset`: it bears the row's number and generation.
-fn framed_cell(offset: usize, row: Row, frame: Frame) -> Result<Cell, Fault>
-    ensures { FramedCell offset row frame result }
+fn framed_cell(offset: usize, number: u64, generation: u32, frame: Frame) -> Result<Cell, Fault>
+    ensures { FramedCell offset number generation frame result }
 {
-    if frame.number as u64 != row.number || frame.generation != row.entry.generation {
-        return Err(broken_rule(offset, row.number as usize));
+    if frame.number as u64 != number || frame.generation != generation {
+        return Err(broken_rule(offset, number as usize));
     }
     Ok(Cell::Used {
-        generation: row.entry.generation,
+        generation,
         start: frame.start,
         end: frame.end,
     })
 }
 
-// The cell of an entry in use: its object is read through the window, and never past the section's start.
+// The cell of an entry in use, whose object stands at `object`: it is read through the window, and never past the section's start.
 fn used_cell<S: Store>(
     store: &S,
     window: &mut Window,
     offset: usize,
-    row: Row,
+    number: u64,
+    object: u64,
+    generation: u32,
 ) -> Result<Cell, Fault>
-    requires used { row.entry.in_use ≡ true }
-    requires counts { length (S.Store.meaning store.now).bytes < 2 ^ 64 }
-    ensures is { state_of (S.Store.meaning store.now).bytes offset row.number (slot_of row.entry) ≡ state_read (S.Store.meaning store.now).bytes result }
-    ensures ends { row.entry.field < offset → IfOk result (EndsBy offset) }
+    requires { length (S.Store.meaning store.now).bytes < 2 ^ 64 }
+    ensures is { state_of (S.Store.meaning store.now).bytes offset number (slot_of (Entry.Used object generation)) ≡ state_read (S.Store.meaning store.now).bytes result }
+    ensures ends { object < offset → IfOk result (EndsBy offset) }
 {
-    let at = row.entry.field as usize;
+    let at = object as usize;
     window.fill(store, at, offset.saturating_sub(at));
     match read_frame_at(at, window.seen()) {
-        Ok(frame) => framed_cell(offset, row, frame),
-        Err(fault) => Err(fault.of_object(row.number as usize)),
+        Ok(frame) => framed_cell(offset, number, generation, frame),
+        Err(fault) => Err(fault.of_object(number as usize)),
     }
 }
 
@@ -56,15 +57,14 @@ fn row_cell<S: Store>(
 ) -> Result<Cell, Fault>
     requires { length (S.Store.meaning store.now).bytes < 2 ^ 64 }
     ensures is { state_of (S.Store.meaning store.now).bytes offset row.number (slot_of row.entry) ≡ state_read (S.Store.meaning store.now).bytes result }
-    ensures ends { (row.entry.in_use ≡ true → row.entry.field < offset) → IfOk result (EndsBy offset) }
+    ensures ends { ((slot_of row.entry).in_use ≡ true → (slot_of row.entry).field < offset) → IfOk result (EndsBy offset) }
 {
-    if row.entry.in_use {
-        used_cell(store, window, offset, row)
-    } else {
-        Ok(Cell::Free {
-            generation: row.entry.generation,
-            next: row.entry.field,
-        })
+    match row.entry {
+        Entry::Used {
+            offset: object,
+            generation,
+        } => used_cell(store, window, offset, row.number, object, generation),
+        Entry::Free { next, generation } => Ok(Cell::Free { generation, next }),
     }
 }
 

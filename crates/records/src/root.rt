@@ -8,7 +8,7 @@ ghost use Rattle.records.specs.Laid.{used_at};
 
 use crate::rows::find_row;
 use entries::cell::Cell;
-use entries::entry::Row;
+use entries::entry::{Entry, Row};
 
 // The cell at `n` is in use with that generation.
 fn used_at(n: usize, generation: u32, cells: &[Cell]) -> bool
@@ -35,10 +35,10 @@ pub fn root_fits(root: u32, root_generation: u32, rows: &[Row], old: &[Cell]) ->
     ensures { (file : Bytes) → result ≡ root_fits root root_generation (rows_of rows.now) (states_in file old.now) }
 {
     match find_row(rows, root as u64) {
-        Some(i) => {
-            let entry = rows[i].entry;
-            entry.in_use && entry.generation == root_generation
-        }
+        Some(i) => match rows[i].entry {
+            Entry::Used { generation, .. } => generation == root_generation,
+            Entry::Free { .. } => false,
+        },
         None => used_at(root as usize, root_generation, old),
     }
 }

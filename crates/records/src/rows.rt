@@ -1,5 +1,5 @@
 // The checks of what a section lists.
-ghost use Rattle.std.specs.Prelude.{◌≡◌, ℕ, ◌<◌, ◌≤◌, true, false, length, ℤ, IfSome};
+ghost use Rattle.std.specs.Prelude.{◌≡◌, ℕ, ◌<◌, ◌≤◌, true, length, ℤ, IfSome};
 ghost use Rattle.faults.specs.declared.reason.Reason.TheVariants.{ChainRule};
 ghost use Rattle.format.specs.Chain.{in_bound};
 ghost use Rattle.format.specs.Failures.{chain_fault};
@@ -7,7 +7,7 @@ ghost use Rattle.format.specs.Revisions.{covered, highest, slot_fits, slots_fit,
 ghost use Rattle.entries.specs.Rows.{rows_of, slot_of};
 ghost use Rattle.records.specs.Listing.{numbers_of, place_from};
 
-use entries::entry::Row;
+use entries::entry::{Entry, Row};
 use faults::fault::Fault;
 use faults::layer::Layer;
 use faults::reason::Reason;
@@ -46,37 +46,37 @@ fn under_size(n: u64, size: i64) -> bool
 }
 
 // An entry in use in a section at `offset`: its number, its generation, and where its object stands.
-fn used_fits(offset: usize, row: Row) -> bool
-    requires { row.entry.in_use ≡ true }
-    ensures { (size : ℤ) → result ≡ slot_fits offset size row.number (slot_of row.entry) }
+fn used_fits(offset: usize, number: u64, object: u64, generation: u32) -> bool
+    ensures { (size : ℤ) → result ≡ slot_fits offset size number (slot_of (Entry.Used object generation)) }
 {
-    if row.number < 1 || row.entry.generation > HIGHEST_USED {
+    if number < 1 || generation > HIGHEST_USED {
         return false;
     }
-    row.entry.field < offset as u64
+    object < offset as u64
 }
 
 // A free entry of a table of that Size: its generation and its link.
-fn free_fits(size: i64, row: Row) -> bool
-    requires { row.entry.in_use ≡ false }
-    ensures { (offset : ℕ) → result ≡ slot_fits offset size row.number (slot_of row.entry) }
+fn free_fits(size: i64, number: u64, next: u64, generation: u32) -> bool
+    ensures { (offset : ℕ) → result ≡ slot_fits offset size number (slot_of (Entry.Free next generation)) }
 {
-    if row.entry.generation > HIGHEST_FREE {
+    if generation > HIGHEST_FREE {
         return false;
     }
-    if row.number == 0 && row.entry.generation < HIGHEST_FREE {
+    if number == 0 && generation < HIGHEST_FREE {
         return false;
     }
-    under_size(row.entry.field, size)
+    under_size(next, size)
 }
 
 fn entry_fits(offset: usize, size: i64, row: Row) -> bool
     ensures { result ≡ slot_fits offset size row.number (slot_of row.entry) }
 {
-    if row.entry.in_use {
-        used_fits(offset, row)
-    } else {
-        free_fits(size, row)
+    match row.entry {
+        Entry::Used {
+            offset: object,
+            generation,
+        } => used_fits(offset, row.number, object, generation),
+        Entry::Free { next, generation } => free_fits(size, row.number, next, generation),
     }
 }
 

@@ -1,8 +1,8 @@
 -- How the pieces of a section hang together.
-use Rattle.std.proofs.Common.{◌≡◌, ℕ, zero, suc, ◌+◌, ◌<◌, Bool, true, false, cond, List, [], ◌∷◌, ◌++◌, length, get_or, take, codes, sym, refl, ap, ◌∙◌, append_assoc, append-nil, add-one, arith}
+use Rattle.std.proofs.Common.{◌≡◌, ℕ, zero, suc, ◌+◌, ◌<◌, List, [], ◌∷◌, ◌++◌, length, get_or, take, codes, sym, refl, ap, ◌∙◌, append_assoc, append-nil, add-one, arith}
 use Rattle.format.specs.Bytes.{Bytes}
 use Rattle.format.specs.Lines.{Slot}
-use Rattle.format.specs.Writing.{decimal, padded, framed_bytes, mark_of, slot_bytes, slots_on, run_on, runs_on, copied, prev_bytes, section_bytes}
+use Rattle.format.specs.Writing.{decimal, padded, framed_bytes, used_slot, free_slot, mark_of, slot_bytes, slots_on, run_on, runs_on, copied, prev_bytes, section_bytes}
 use Rattle.sections.proofs.Digits.{padded_++}
 use Rattle.sections.proofs.Entries.{runs_on_++}
 use Rattle.entries.specs.declared.entry.Entry.{Entry}
@@ -35,19 +35,21 @@ pub slots_none : slots_on [] [] ≡ []
 unfolding slots_on
 slots_none = refl
 
--- the mark of an entry
-pub mark_is : (b : Bool) → cond b 110 102 ≡ mark_of b
-unfolding mark_of
-mark_is true = refl
-mark_is false = refl
-
 -- an entry is its parts
-pub slot_parts : (s : Slot) →
-    padded 10 s.field [] ++ ((32 ∷ []) ++ (padded 5 s.gen [] ++ ((32 ∷ []) ++ ((mark_of s.in_use ∷ []) ++ codes " \n")))) ≡ slot_bytes s
-unfolding slot_bytes
-slot_parts s =
-    padded_++ 10 s.field [] (32 ∷ (padded 5 s.gen [] ++ (32 ∷ mark_of s.in_use ∷ 32 ∷ 10 ∷ [])))
-    ∙ ap (λ zs. padded 10 s.field (32 ∷ zs)) (padded_++ 5 s.gen [] (32 ∷ mark_of s.in_use ∷ 32 ∷ 10 ∷ []))
+pub entry_parts : (field gen mark : ℕ) →
+    padded 10 field [] ++ ((32 ∷ []) ++ (padded 5 gen [] ++ ((32 ∷ []) ++ ((mark ∷ []) ++ codes " \n")))) ≡ padded 10 field (32 ∷ padded 5 gen (32 ∷ mark ∷ 32 ∷ 10 ∷ []))
+entry_parts field gen mark =
+    padded_++ 10 field [] (32 ∷ (padded 5 gen [] ++ (32 ∷ mark ∷ 32 ∷ 10 ∷ [])))
+    ∙ ap (λ zs. padded 10 field (32 ∷ zs)) (padded_++ 5 gen [] (32 ∷ mark ∷ 32 ∷ 10 ∷ []))
+
+-- by its mark it is in use or free
+pub used_marked : (p g : ℕ) → padded 10 p (32 ∷ padded 5 g (32 ∷ 110 ∷ 32 ∷ 10 ∷ [])) ≡ slot_bytes (used_slot p g)
+unfolding slot_bytes mark_of
+used_marked p g = refl
+
+pub free_marked : (n g : ℕ) → padded 10 n (32 ∷ padded 5 g (32 ∷ 102 ∷ 32 ∷ 10 ∷ [])) ≡ slot_bytes (free_slot n g)
+unfolding slot_bytes mark_of
+free_marked n g = refl
 
 -- an object is its parts
 pub framed_parts : (n g : ℕ) (b : Bytes) →

@@ -2,7 +2,7 @@
 ghost use Rattle.std.specs.Prelude.{◌≡◌, ◌+◌, ◌<◌, ◌≤◌, ◌∷◌, map, length, drop};
 ghost use Rattle.std.specs.Option.{option_map};
 ghost use Rattle.entries.specs.Rows.{slot_of};
-ghost use Rattle.format.specs.Writing.{entry_for, free_slot, next_free};
+ghost use Rattle.format.specs.Writing.{entry_for, next_free};
 ghost use Rattle.writer.specs.Listing.{front, is_free, listed_at};
 ghost use Rattle.writer.specs.Planned.{cell_of};
 
@@ -42,17 +42,6 @@ fn next_free(plan: &[Planned], from: usize) -> usize
     0
 }
 
-// A free entry.
-fn free_entry(next: u64, generation: u32) -> Entry
-    ensures { slot_of result ≡ free_slot next generation }
-{
-    Entry {
-        in_use: false,
-        field: next,
-        generation,
-    }
-}
-
 // The entry of a number that stays free, if it is listed: 0 is, and each whose next free number changes.
 fn vacant_entry(n: usize, link: u64, generation: u32, next: u64) -> Option<Entry>
     ensures { option_map slot_of result ≡ entry_for n link (cell_of (Planned.Vacant generation next)) }
@@ -60,7 +49,10 @@ fn vacant_entry(n: usize, link: u64, generation: u32, next: u64) -> Option<Entry
     if n != 0 && link == next {
         return None;
     }
-    Some(free_entry(link, generation))
+    Some(Entry::Free {
+        next: link,
+        generation,
+    })
 }
 
 // The entry of a number, if it is listed.
@@ -76,15 +68,11 @@ pub(crate) fn entry_of(plan: &[Planned], n: usize) -> Option<Entry>
             generation,
             next,
         ),
-        Planned::Wrote { generation, offset } => Some(Entry {
-            in_use: true,
-            field: offset,
+        Planned::Wrote { generation, offset } => Some(Entry::Used { offset, generation }),
+        Planned::Freed { generation } => Some(Entry::Free {
+            next: next_free(plan, n + 1) as u64,
             generation,
         }),
-        Planned::Freed { generation } => Some(free_entry(
-            next_free(plan, n + 1) as u64,
-            generation,
-        )),
     }
 }
 

@@ -1,18 +1,11 @@
 // Cross-reference sections and their trailers.
-ghost use Rattle.std.specs.Prelude.{◌≡◌, ◌+◌, ◌*◌, ◌^◌, ◌<◌, cond, [], ◌∷◌, ◌++◌, length, Some, codes};
+ghost use Rattle.std.specs.Prelude.{◌≡◌, ◌+◌, ◌*◌, ◌^◌, ◌<◌, [], ◌∷◌, ◌++◌, length, Some, codes};
 ghost use Rattle.format.specs.Writing.{padded, prev_bytes, run_on, slot_bytes, slots_on};
 ghost use Rattle.writer.specs.Drafts.{Adds, Room};
 ghost use Rattle.writer.specs.Pieces.{close_bytes, line_bytes, pair_bytes, size_bytes, slot_of, slots_of};
 
 use super::Draft;
 use crate::entry::Entry;
-
-// `n` for an entry in use, `f` for a free one.
-fn mark(in_use: bool) -> u8
-    ensures { result ≡ cond in_use 110 102 }
-{
-    if in_use { b'n' } else { b'f' }
-}
 
 impl Draft {
     // The line above a section's runs.
@@ -28,11 +21,22 @@ impl Draft {
         requires { Room self.old 20 }
         ensures { Adds self.old (slot_bytes (slot_of one)) self.new }
     {
-        self.ten_digits(one.field);
+        match one {
+            Entry::Used { offset, generation } => self.marked_entry(offset, generation, b'n'),
+            Entry::Free { next, generation } => self.marked_entry(next, generation, b'f'),
+        }
+    }
+
+    // An entry by its ten digits, its generation and its mark.
+    fn marked_entry(&mut self, field: u64, generation: u32, mark: u8)
+        requires { Room self.old 20 }
+        ensures { Adds self.old (padded 10 field (32 ∷ padded 5 generation (32 ∷ mark ∷ 32 ∷ 10 ∷ []))) self.new }
+    {
+        self.ten_digits(field);
         self.byte(b' ');
-        self.padded(5, one.generation as u64);
+        self.padded(5, generation as u64);
         self.byte(b' ');
-        self.byte(mark(one.in_use));
+        self.byte(mark);
         self.entry_end();
     }
 

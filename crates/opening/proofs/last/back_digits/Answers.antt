@@ -1,51 +1,41 @@
-use Rattle.std.proofs.Common.{◌-◌, sym, refl, arith}
-use Rattle.opening.proofs.Backwards.{run_start, run_more, run_many, run_stops, run_empty, run_ends, run_no_digit, power_start, power_more, power_small, lead_below}
+use Rattle.std.proofs.Common.{◌≡◌, ◌+◌, ◌-◌, true, length, take, Some, sym, ap, ◌∙◌, arith}
+use Rattle.std.proofs.lemmas.List.{length-drop, length-take}
+use Rattle.std.proofs.lemmas.List.Elements.{All-same}
+use Rattle.std.proofs.lemmas.List.Sums.{suffix_len-le-length}
+use Rattle.format.specs.Bytes.{is_digit, value}
+use Rattle.opening.specs.Backwards.{before}
+use Rattle.opening.proofs.Backwards.{back_unfit, back_taken}
+use Rattle.opening.proofs.Places.{rest_is}
+use Rattle.opening.proofs.Runs.{end_pass}
 use Rattle.opening.proofs.last.back_digits.Goals as goal
 
-pub lead_digit-value-requires : goal.lead_digit-value-requires
-lead_digit-value-requires c = (sym c.if-not-is_digit.ensures, (power_small _ (c.args.at - c.loop-low.low) c.loop-low.invariant.2 (omega arith), c.loop-low.invariant.3))
-
-pub overflow_mul-power : goal.overflow_mul-power
-overflow_mul-power c = let p = power_small _ (c.args.at - c.loop-low.low) c.loop-low.invariant.2 (omega arith) in omega arith
-
-pub loop-low-init : goal.loop-low-init
-loop-low-init c = (omega arith, omega arith, power_start _ (omega arith), omega arith, run_start _ _ _ refl)
-
-pub returns-then-low-at : goal.returns-then-low-at
-returns-then-low-at c = record {
-  is = run_empty c.args.src.now c.args.at c.loop-low.low _ _ c.loop-low.invariant.4 (omega arith) (omega arith) (omega arith) (sym c.if-not-is_digit.ensures);
+pub returns-then-found-eq0 : goal.returns-then-found-eq0
+returns-then-found-eq0 c = record {
+  is = back_unfit c.args.src.now c.args.at c.digits_at_end-found.result c.digits_at_end-found.ensures c.requires c.then-found-eq0.either;
   within = tt;
 }
 
-pub returns-then-not-is_digit : goal.returns-then-not-is_digit
-returns-then-not-is_digit c = record {
-  is = run_stops c.args.src.now c.args.at c.loop-low.low _ _ c.loop-low.invariant.4 (omega arith) (omega arith) (omega arith) (omega arith) (sym c.if-not-is_digit.ensures);
-  within = omega arith;
-}
+pub overflow_sub-start : goal.overflow_sub-start
+overflow_sub-start c =
+    omega (arith, c.digits_at_end-found.ensures, suffix_len-le-length is_digit (take c.args.at c.args.src.now), length-take c.args.at c.args.src.now)
 
-pub returns-then-at-low-eq-MOST_DIGITS : goal.returns-then-at-low-eq-MOST_DIGITS
-returns-then-at-low-eq-MOST_DIGITS c = record {
-  is = run_many c.args.src.now c.args.at c.loop-low.low _ _ c.loop-low.invariant.4 (omega arith) (omega arith) (omega arith) (sym c.if-not-is_digit.ensures);
-  within = tt;
-}
-
-pub loop-low-preserved : goal.loop-low-preserved
-loop-low-preserved c = (
-  omega arith,
-  omega arith,
-  power_more _ (c.args.at - c.loop-low.low) _ c.loop-low.invariant.2 (omega arith),
-  lead_below _ _ _ _ c.lead_digit-value.ensures c.loop-low.invariant.3 (sym c.if-not-is_digit.ensures),
-  run_more c.args.src.now c.args.at c.loop-low.low _ _ c.loop-low.invariant.4 (omega arith) (omega arith) _ _ c.lead_digit-value.ensures refl (omega arith) (sym c.if-not-is_digit.ensures),
-)
-
-pub returns-then-low-at-2 : goal.returns-then-low-at-2
-returns-then-low-at-2 c = record {
-  is = run_no_digit c.args.src.now c.args.at c.loop-low.low _ _ c.loop-low.invariant.4 (omega arith) (omega arith);
-  within = tt;
-}
+pub number-requires : goal.number-requires
+number-requires c =
+    let n = c.digits_at_end-found.result in
+    let xs = take c.args.at c.args.src.now in
+    let r = rest_is xs (c.args.at - n) in
+    let l : c.args.at - n + n ≡ length xs =
+    omega (arith, c.digits_at_end-found.ensures, suffix_len-le-length is_digit xs, length-take c.args.at c.args.src.now) in
+    record {
+      few = rw r (simp length-drop (omega arith));
+      digits = All-same (λ x. is_digit x ≡ true) _ _ r (end_pass xs n (c.args.at - n) c.digits_at_end-found.ensures l);
+    }
 
 pub returns : goal.returns
-returns c = record {
-  is = run_ends c.args.src.now c.args.at c.loop-low.low _ _ c.loop-low.invariant.4 (omega arith) (omega arith) (omega arith);
-  within = omega arith;
-}
+returns c =
+    let n = c.digits_at_end-found.result in
+    let r = rest_is (take c.args.at c.args.src.now) (c.args.at - n) in
+    record {
+      is = back_taken c.args.src.now c.args.at n c.digits_at_end-found.ensures c.requires (omega arith) (omega arith) ∙ ap (λ v. Some (v, before c.args.src.now (c.args.at - n))) (sym (c.number.ensures.is ∙ ap value r));
+      within = omega arith;
+    }

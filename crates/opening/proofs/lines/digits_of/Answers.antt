@@ -1,34 +1,57 @@
-use Rattle.std.proofs.Common.{◌+◌, ◌-◌, drop, sym, ap, ◌∙◌, arith}
-use Rattle.format.specs.Lines.{digits_of}
-use Rattle.opening.proofs.Digits.{few, next_power, at_power, exactly_all, exactly_short, exactly_misfit, exactly_more}
+use Rattle.std.proofs.Common.{◌≡◌, ◌+◌, ◌-◌, true, length, take, drop, sym, ap, ◌∙◌, arith}
+use Rattle.std.specs.List.{prefix_len}
+use Rattle.std.proofs.lemmas.List.{length-drop, length-take}
+use Rattle.std.proofs.lemmas.List.Elements.{All-same}
+use Rattle.std.proofs.lemmas.List.Sums.{prefix_len-le-length}
+use Rattle.format.specs.Bytes.{is_digit, value}
+use Rattle.format.specs.Lines.{took}
+use Rattle.opening.proofs.Digits.{at_power, exactly_took, exactly_short, exactly_misfit}
+use Rattle.opening.proofs.Places.{rest_is}
+use Rattle.opening.proofs.Runs.{front_pass}
 use Rattle.opening.proofs.lines.digits_of.Goals as goal
 
-pub with_digit-value-requires : goal.with_digit-value-requires
-with_digit-value-requires c = (few _ (c.args.count - c.loop-left.left) c.loop-left.invariant.3 (omega arith), sym c.if-not-is_digit.ensures)
+pub number-requires : goal.number-requires
+number-requires c =
+    let r = rest_is c.args.src.now c.args.from in
+    let e = c.digits_in_front-found.ensures ∙ ap (prefix_len is_digit) r in
+    record {
+      few = rw length-take (omega (arith, c.requires.0));
+      digits = All-same (λ x. is_digit x ≡ true) _ _ (ap (take c.args.count) r) (front_pass (drop c.args.from c.args.src.now) c.args.count (omega arith));
+    }
 
-pub returns-then-at-src : goal.returns-then-at-src
-returns-then-at-src c = record {
-  is = record { is = λ base. exactly_short c.args.src.now c.loop-left.left c.loop-left.value c.loop-left.at base (c.loop-left.invariant.4 base) (omega arith) (omega arith); within = tt };
-  small = tt;
-}
+pub returns-then-found-count : goal.returns-then-found-count
+returns-then-found-count c =
+    let n = c.digits_in_front-found.result in
+    let rest = drop c.args.from c.args.src.now in
+    let r = rest_is c.args.src.now c.args.from in
+    let e = c.digits_in_front-found.ensures ∙ ap (prefix_len is_digit) r in
+    let l = prefix_len-le-length is_digit rest in
+    let k = length-drop c.args.from c.args.src.now in
+    let v = c.number.ensures.is ∙ ap (λ xs. value (take c.args.count xs)) r in
+    let m : length (take c.args.count (take (length c.args.src.now - c.args.from) rest)) ≡ c.args.count =
+    ap (λ xs. length (take c.args.count xs)) r ∙ length-take c.args.count rest ∙ omega arith in
+    record {
+      is = record {
+        is = λ base. exactly_took c.args.count c.args.src.now c.args.from base n e c.if-found-count.true ∙ ap (λ m. took m (base + (c.args.from + c.args.count)) (drop (c.args.from + c.args.count) c.args.src.now)) (sym v);
+        within = (omega arith, omega arith);
+      };
+      small = at_power _ _ c.args.count m c.number.ensures.small;
+    }
 
-pub returns-then-not-is_digit : goal.returns-then-not-is_digit
-returns-then-not-is_digit c = record {
-  is = record { is = λ base. exactly_misfit c.args.src.now c.loop-left.left c.loop-left.value c.loop-left.at base (c.loop-left.invariant.4 base) (omega arith) (omega arith) (sym c.if-not-is_digit.ensures); within = tt };
-  small = tt;
-}
-
-pub loop-left-preserved : goal.loop-left-preserved
-loop-left-preserved c = (
-  omega arith,
-  omega arith,
-  omega arith,
-  next_power c.loop-left.value _ _ (c.args.count - c.loop-left.left) (c.args.count - (c.loop-left.left - 1)) c.with_digit-value.ensures (omega arith) c.loop-left.invariant.3 (sym c.if-not-is_digit.ensures),
-  λ base. ap (λ m. digits_of (c.loop-left.left - 1) m (base + (c.loop-left.at + 1)) (drop (c.loop-left.at + 1) c.args.src.now)) c.with_digit-value.ensures ∙ exactly_more c.args.src.now c.loop-left.left c.loop-left.value c.loop-left.at base (c.loop-left.invariant.4 base) (omega arith) (omega arith) (sym c.if-not-is_digit.ensures),
-)
+pub returns-then-found-rest : goal.returns-then-found-rest
+returns-then-found-rest c =
+    let r = rest_is c.args.src.now c.args.from in
+    let e = c.digits_in_front-found.ensures ∙ ap (prefix_len is_digit) r in
+    record {
+      is = record { is = λ base. exactly_short c.args.count c.args.src.now c.args.from base c.digits_in_front-found.result e (omega arith) (c.if-found-rest.true ∙ ap length r); within = tt };
+      small = tt;
+    }
 
 pub returns : goal.returns
-returns c = record {
-  is = record { is = λ base. exactly_all c.args.src.now c.loop-left.left c.loop-left.value c.loop-left.at base (c.loop-left.invariant.4 base) (omega arith); within = (omega arith, omega arith) };
-  small = at_power _ (c.args.count - c.loop-left.left) c.args.count (omega arith) c.loop-left.invariant.3;
-}
+returns c =
+    let r = rest_is c.args.src.now c.args.from in
+    let e = c.digits_in_front-found.ensures ∙ ap (prefix_len is_digit) r in
+    record {
+      is = record { is = λ base. exactly_misfit c.args.count c.args.src.now c.args.from base c.digits_in_front-found.result e (omega arith) (λ w. c.if-found-rest.false (w ∙ sym (ap length r))); within = tt };
+      small = tt;
+    }

@@ -1,15 +1,30 @@
-use Rattle.std.proofs.Common.{arith}
-use Rattle.opening.proofs.Words.{exact_ends, exact_short, exact_misfit, exact_more}
+use Rattle.std.proofs.Common.{◌-◌, length, drop, refl, ap, ◌∙◌, arith}
+use Rattle.std.specs.Prelude.{nat_eq}
+use Rattle.std.specs.List.{starts_with}
+use Rattle.std.proofs.lemmas.List.{length-drop, length-take}
+use Rattle.opening.proofs.Places.{rest_is}
+use Rattle.opening.proofs.Words.{exact_took, exact_short, exact_misfit}
 use Rattle.opening.proofs.lines.exact.Goals as goal
 
-pub returns-then-at-src : goal.returns-then-at-src
-returns-then-at-src c = record { is = λ base. exact_short c.args.word.now c.args.src.now c.loop-b.b-index c.loop-b.at base (c.loop-b.invariant.2 base) (omega arith) (omega arith); within = tt }
+pub returns-then-starts_with : goal.returns-then-starts_with
+returns-then-starts_with c =
+    let r = rest_is c.args.src.now c.args.from in
+    let e = c.if-starts_with.ensures.value ∙ ap (λ xs. starts_with nat_eq xs c.args.word.now) r in
+    record {
+      is = λ base. exact_took c.args.word.now c.args.src.now c.args.from base e;
+      within = (omega arith, omega (arith, c.if-starts_with.ensures.bound refl, length-take (length c.args.src.now - c.args.from) (drop c.args.from c.args.src.now), length-drop c.args.from c.args.src.now));
+    }
 
-pub returns-then-src-at : goal.returns-then-src-at
-returns-then-src-at c = record { is = λ base. exact_misfit c.args.word.now c.args.src.now c.loop-b.b-index c.loop-b.at base (c.loop-b.invariant.2 base) (omega arith) (omega arith) c.if-src-at.true; within = tt }
-
-pub loop-b-preserved : goal.loop-b-preserved
-loop-b-preserved c = (omega arith, omega arith, λ base. exact_more c.args.word.now c.args.src.now c.loop-b.b-index c.loop-b.at base (c.loop-b.invariant.2 base) (omega arith) (omega arith) c.if-src-at.false)
+pub returns-then-starts_with-2 : goal.returns-then-starts_with-2
+returns-then-starts_with-2 c =
+    let r = rest_is c.args.src.now c.args.from in
+    let e = c.if-starts_with.ensures.value ∙ ap (λ xs. starts_with nat_eq xs c.args.word.now) r in
+    let f = c.if-starts_with-2.ensures.value ∙ ap (λ xs. starts_with nat_eq c.args.word.now xs) r in
+    record { is = λ base. exact_short c.args.word.now c.args.src.now c.args.from base e f; within = tt }
 
 pub returns : goal.returns
-returns c = record { is = λ base. exact_ends c.args.word.now c.args.src.now c.loop-b.b-index c.loop-b.at base (c.loop-b.invariant.2 base) (omega arith); within = (omega arith, omega arith) }
+returns c =
+    let r = rest_is c.args.src.now c.args.from in
+    let e = c.if-starts_with.ensures.value ∙ ap (λ xs. starts_with nat_eq xs c.args.word.now) r in
+    let f = c.if-starts_with-2.ensures.value ∙ ap (λ xs. starts_with nat_eq c.args.word.now xs) r in
+    record { is = λ base. exact_misfit c.args.word.now c.args.src.now c.args.from base e f; within = tt }

@@ -1,14 +1,12 @@
-use Rattle.std.proofs.Common.{◌≡◌, Err}
-use Rattle.std.proofs.lemmas.Result.{err_from_is_err_and}
 use Rattle.format.specs.Lines.{exact_line}
 use Rattle.opening.proofs.Pieces.{cut, on, passes_from, line_lacks}
+use Rattle.opening.proofs.Readings.{exit_is}
 use Rattle.opening.proofs.lines.exact_line.Goals as goal
 
 pub returns-in_err-at : goal.returns-in_err-at
 unfolding exact_line
 returns-in_err-at c =
-    let p = err_from_is_err_and c.from_residual.result c.from_residual.ensures.1 in
-    let z : c.from_residual.result ≡ Err c.in_err-at.field-0.0 = cc in
+    let z = exit_is c.from_residual.result c.in_err-at.field-0.0 c.from_residual.ensures.1 in
     line_lacks _ _ _ _ _ z (λ base. cut _ _ _ (c.in_err-at.ensures.is base))
 
 pub returns : goal.returns

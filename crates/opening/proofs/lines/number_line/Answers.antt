@@ -1,22 +1,20 @@
-use Rattle.std.proofs.Common.{◌≡◌, Err, arith}
-use Rattle.std.proofs.lemmas.Result.{err_from_is_err_and}
+use Rattle.std.proofs.Common.{arith}
 use Rattle.std.proofs.lemmas.Bool.{eq-eqb, ne_eqb}
 use Rattle.format.specs.Lines.{number_line}
 use Rattle.opening.proofs.Pieces.{cut, on, line_lacks}
+use Rattle.opening.proofs.Readings.{exit_is}
 use Rattle.opening.proofs.lines.number_line.Goals as goal
 
 pub returns-in_err-number : goal.returns-in_err-number
 unfolding number_line
 returns-in_err-number c =
-    let p = err_from_is_err_and c.from_residual.result c.from_residual.ensures.1 in
-    let z : c.from_residual.result ≡ Err c.in_err-number.field-0.0 = cc in
+    let z = exit_is c.from_residual.result c.in_err-number.field-0.0 c.from_residual.ensures.1 in
     line_lacks _ _ _ _ _ z (λ base. cut _ _ _ (c.in_err-number.ensures.is.is base))
 
 pub returns-in_err-end : goal.returns-in_err-end
 unfolding number_line
 returns-in_err-end c =
-    let p = err_from_is_err_and c.from_residual-in_err-end.result c.from_residual-in_err-end.ensures.1 in
-    let z : c.from_residual-in_err-end.result ≡ Err c.in_err-end.field-0.0 = cc in
+    let z = exit_is c.from_residual-in_err-end.result c.in_err-end.field-0.0 c.from_residual-in_err-end.ensures.1 in
     line_lacks _ _ _ _ _ z (λ base. on _ _ (c.in_ok-number.ensures.is.is base) (cut _ _ _ (c.in_err-end.ensures.is base)))
 
 pub returns-then-number-n : goal.returns-then-number-n

@@ -1,35 +1,31 @@
-use Rattle.std.proofs.Common.{◌≡◌, Err, codes, refl, arith}
-use Rattle.std.proofs.lemmas.Result.{err_from_is_err_and}
+use Rattle.std.proofs.Common.{codes, refl, arith}
 use Rattle.format.specs.Lines.{exact, exact_line}
 use Rattle.opening.specs.Held.{rows_held}
 use Rattle.opening.proofs.Answered.{line_placed, line_within}
 use Rattle.opening.proofs.Listing.{behind_none}
-use Rattle.opening.proofs.Readings.{err_case, seen_ok, seen_bad}
+use Rattle.opening.proofs.Readings.{exit_is, err_case, seen_ok, seen_bad}
 use Rattle.opening.proofs.SectionParts.{line_bad, subs_bad, word_bad, trailer_bad, tail_bad, whole}
 use Rattle.opening.proofs.section.read_section.Goals as goal
 
 pub returns-in_err-start : goal.returns-in_err-start
 returns-in_err-start c =
-    let p = err_from_is_err_and c.from_residual.result c.from_residual.ensures.1 in
-    let z : c.from_residual.result ≡ Err c.in_err-start.field-0.0 = cc in
+    let z = exit_is c.from_residual.result c.in_err-start.field-0.0 c.from_residual.ensures.1 in
     err_case _ _ _ _ z (line_bad c.args.base c.args.src.now _ (line_placed (exact_line (codes "xref")) _ 0 c.args.base _ c.exact_line.ensures _ c.in_err-start.ensures))
 
 pub read_subsections-requires : goal.read_subsections-requires
 read_subsections-requires c =
     let w = line_within (exact_line (codes "xref")) _ 0 c.args.base _ c.exact_line.ensures _ c.in_ok-start.ensures in
-    record { counts = c.requires.counts; few = c.requires.few; place = w.1; held = rw c.clear.ensures (omega arith) }
+    record { few = c.requires.few; place = w.1; held = rw c.clear.ensures (omega arith) }
 
 pub returns-in_err-subsections : goal.returns-in_err-subsections
 returns-in_err-subsections c =
-    let p = err_from_is_err_and c.from_residual-in_err-subsections.result c.from_residual-in_err-subsections.ensures.1 in
-    let z : c.from_residual-in_err-subsections.result ≡ Err c.in_err-subsections.field-0.0 = cc in
+    let z = exit_is c.from_residual-in_err-subsections.result c.in_err-subsections.field-0.0 c.from_residual-in_err-subsections.ensures.1 in
     let line = line_placed (exact_line (codes "xref")) _ 0 c.args.base _ c.exact_line.ensures _ c.in_ok-start.ensures in
     err_case _ _ _ _ z (subs_bad c.args.base c.args.src.now c.in_ok-start.start line _ (seen_bad _ _ c.in_err-subsections.ensures.is))
 
 pub returns-in_err-word_end : goal.returns-in_err-word_end
 returns-in_err-word_end c =
-    let p = err_from_is_err_and c.from_residual-in_err-word_end.result c.from_residual-in_err-word_end.ensures.1 in
-    let z : c.from_residual-in_err-word_end.result ≡ Err c.in_err-word_end.field-0.0 = cc in
+    let z = exit_is c.from_residual-in_err-word_end.result c.in_err-word_end.field-0.0 c.from_residual-in_err-word_end.ensures.1 in
     let line = line_placed (exact_line (codes "xref")) _ 0 c.args.base _ c.exact_line.ensures _ c.in_ok-start.ensures in
     let subs = seen_ok _ _ c.in_ok-subsections.ensures.is in
     let q = c.in_ok-subsections.subsections.«end» in
@@ -43,8 +39,7 @@ dictionary_at-requires c =
 
 pub returns-in_err-dictionary : goal.returns-in_err-dictionary
 returns-in_err-dictionary c =
-    let p = err_from_is_err_and c.from_residual-in_err-dictionary.result c.from_residual-in_err-dictionary.ensures.1 in
-    let z : c.from_residual-in_err-dictionary.result ≡ Err c.in_err-dictionary.field-0.0 = cc in
+    let z = exit_is c.from_residual-in_err-dictionary.result c.in_err-dictionary.field-0.0 c.from_residual-in_err-dictionary.ensures.1 in
     let line = line_placed (exact_line (codes "xref")) _ 0 c.args.base _ c.exact_line.ensures _ c.in_ok-start.ensures in
     let subs = seen_ok _ _ c.in_ok-subsections.ensures.is in
     let q = c.in_ok-subsections.subsections.«end» in
@@ -53,8 +48,7 @@ returns-in_err-dictionary c =
 
 pub returns-in_err-end : goal.returns-in_err-end
 returns-in_err-end c =
-    let p = err_from_is_err_and c.from_residual-in_err-end.result c.from_residual-in_err-end.ensures.1 in
-    let z : c.from_residual-in_err-end.result ≡ Err c.in_err-end.field-0.0 = cc in
+    let z = exit_is c.from_residual-in_err-end.result c.in_err-end.field-0.0 c.from_residual-in_err-end.ensures.1 in
     let line = line_placed (exact_line (codes "xref")) _ 0 c.args.base _ c.exact_line.ensures _ c.in_ok-start.ensures in
     let subs = seen_ok _ _ c.in_ok-subsections.ensures.is in
     let q = c.in_ok-subsections.subsections.«end» in

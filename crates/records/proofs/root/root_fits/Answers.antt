@@ -1,21 +1,20 @@
-use Rattle.std.proofs.Common.{◌&&◌, eqb, get_or, sym, ap, ◌∙◌}
+use Rattle.std.proofs.Common.{◌&&◌, eqb, sym, ap, ◌∙◌}
 use Rattle.entries.specs.Cells.{states_in}
+use Rattle.entries.specs.Rows.{slot_of}
 use Rattle.records.proofs.Laying.{root_listed, root_before}
-use Rattle.records.proofs.Listings.{no_row}
 use Rattle.records.proofs.root.root_fits.Goals as goal
 
-pub returns-then-entry : goal.returns-then-entry
-returns-then-entry c =
+pub returns-in-Used : goal.returns-in-Used
+returns-in-Used c =
     λ file.
-    let e = eqb (get_or c.args.rows.now c.in-Some.i no_row).entry.generation c.args.root_generation in
-    sym (root_listed c.args.root c.args.root_generation c.in-Some.i c.args.rows.now no_row (states_in file c.args.old.now) c.in-Some.ensures.is ∙ ap (λ b. b && e) c.if-entry.true)
+    sym (root_listed c.args.root c.args.root_generation c.in-Some.i c.args.rows.now _ (states_in file c.args.old.now) c.in-Some.ensures.is
+    ∙ ap (λ e. (slot_of e).in_use && eqb (slot_of e).gen c.args.root_generation) c.in-Used.is)
 
-pub returns-else-entry : goal.returns-else-entry
-returns-else-entry c =
+pub returns-in-Free : goal.returns-in-Free
+returns-in-Free c =
     λ file.
-    let e = eqb (get_or c.args.rows.now c.in-Some.i no_row).entry.generation c.args.root_generation in
-    c.if-entry.false
-    ∙ sym (root_listed c.args.root c.args.root_generation c.in-Some.i c.args.rows.now no_row (states_in file c.args.old.now) c.in-Some.ensures.is ∙ ap (λ b. b && e) c.if-entry.false)
+    sym (root_listed c.args.root c.args.root_generation c.in-Some.i c.args.rows.now _ (states_in file c.args.old.now) c.in-Some.ensures.is
+    ∙ ap (λ e. (slot_of e).in_use && eqb (slot_of e).gen c.args.root_generation) c.in-Free.is)
 
 pub returns-in-None : goal.returns-in-None
 returns-in-None c = λ file. c.used_at.ensures file ∙ sym (root_before c.args.root c.args.root_generation c.args.rows.now (states_in file c.args.old.now) c.in-None.ensures.is)

@@ -1,28 +1,28 @@
-use Rattle.std.proofs.Common.{◌≡◌, true, false, cond, ◌&&◌, eqb, leb, sym, ap, ◌∙◌, arith, w64}
+use Rattle.std.proofs.Common.{◌≡◌, true, false, cond, ◌&&◌, eqb, leb, refl, sym, ap, ◌∙◌, arith, w64}
 use Rattle.std.proofs.lemmas.Int.{to_z-of_z}
 use Rattle.std.proofs.lemmas.Bool.Decides.{nat_tests}
 use Rattle.format.specs.Revisions.{under_size}
-use Rattle.entries.specs.Rows.{slot_of}
+use Rattle.format.specs.Writing.{free_slot}
 use Rattle.records.proofs.Listings.{free_rule}
 use Rattle.records.proofs.rows.free_fits.Goals as goal
 
-pub returns-then-row-gt-HIGHEST_FREE : goal.returns-then-row-gt-HIGHEST_FREE
-returns-then-row-gt-HIGHEST_FREE c =
+pub returns-then-generation-gt-HIGHEST_FREE : goal.returns-then-generation-gt-HIGHEST_FREE
+returns-then-generation-gt-HIGHEST_FREE c =
     λ offset.
-    let e = free_rule offset c.args.size c.args.row.number (slot_of c.args.row.entry) c.requires in
-    let a : false ≡ (cond (eqb c.args.row.number 0) (eqb c.args.row.entry.generation 65535) (leb c.args.row.entry.generation 65535) && under_size c.args.row.entry.field c.args.size) = grind (arith, nat_tests) in
+    let e = free_rule offset c.args.size c.args.number (free_slot c.args.next c.args.generation) refl in
+    let a : false ≡ (cond (eqb c.args.number 0) (eqb c.args.generation 65535) (leb c.args.generation 65535) && under_size c.args.next c.args.size) = grind (arith, nat_tests) in
     a ∙ sym e
 
-pub returns-then-row-lt-HIGHEST_FREE : goal.returns-then-row-lt-HIGHEST_FREE
-returns-then-row-lt-HIGHEST_FREE c =
+pub returns-then-generation-lt-HIGHEST_FREE : goal.returns-then-generation-lt-HIGHEST_FREE
+returns-then-generation-lt-HIGHEST_FREE c =
     λ offset.
-    let e = free_rule offset c.args.size c.args.row.number (slot_of c.args.row.entry) c.requires in
-    let a : false ≡ (cond (eqb c.args.row.number 0) (eqb c.args.row.entry.generation 65535) (leb c.args.row.entry.generation 65535) && under_size c.args.row.entry.field c.args.size) = grind (arith, nat_tests) in
+    let e = free_rule offset c.args.size c.args.number (free_slot c.args.next c.args.generation) refl in
+    let a : false ≡ (cond (eqb c.args.number 0) (eqb c.args.generation 65535) (leb c.args.generation 65535) && under_size c.args.next c.args.size) = grind (arith, nat_tests) in
     a ∙ sym e
 
 pub returns : goal.returns
 returns c =
     λ offset.
-    let e = free_rule offset c.args.size c.args.row.number (slot_of c.args.row.entry) c.requires in
-    let a : cond (eqb c.args.row.number 0) (eqb c.args.row.entry.generation 65535) (leb c.args.row.entry.generation 65535) ≡ true = grind (arith, nat_tests) in
-    c.under_size.ensures ∙ ap (under_size c.args.row.entry.field) (to_z-of_z w64 c.args.size c.ranges.size) ∙ ap (λ b. b && under_size c.args.row.entry.field c.args.size) (sym a) ∙ sym e
+    let e = free_rule offset c.args.size c.args.number (free_slot c.args.next c.args.generation) refl in
+    let a : cond (eqb c.args.number 0) (eqb c.args.generation 65535) (leb c.args.generation 65535) ≡ true = grind (arith, nat_tests) in
+    c.under_size.ensures ∙ ap (under_size c.args.next) (to_z-of_z w64 c.args.size c.ranges.size) ∙ ap (λ b. b && under_size c.args.next c.args.size) (sym a) ∙ sym e

@@ -30,4 +30,4 @@ returns-in-Freed c =
     let n = c.args.n in
     let g = c.in-Freed.generation in
     entry_at plan n (Freed g) _ c.requires c.in-Freed.is
-    (freed_entry n (next_in plan (n + 1)) g ∙ ap (λ l. Some (free_slot l g)) (sym c.next_free-in-Freed.ensures) ∙ ap Some (sym c.free_entry.ensures))
+    (freed_entry n (next_in plan (n + 1)) g ∙ ap (λ l. Some (free_slot l g)) (sym c.next_free-in-Freed.ensures))

@@ -1,40 +1,9 @@
-use Rattle.std.proofs.Common.{ℕ, [], ◌∷◌, ap, ◌∙◌, arith}
-use Rattle.sections.proofs.Digits.{padded_length}
-use Rattle.entries.specs.Rows.{slot_of}
-use Rattle.writer.proofs.Joined.{adds_then, adds_as}
-use Rattle.writer.proofs.Pieces.{mark_is, slot_parts}
+use Rattle.writer.proofs.Joined.{adds_as}
+use Rattle.writer.proofs.Pieces.{used_marked, free_marked}
 use Rattle.writer.proofs.draft.Draft.entry.Goals as goal
 
-pub byte-requires : goal.byte-requires
-byte-requires c = let l = padded_length 10 c.args.one.field [] in omega arith
+pub returns-in-Used : goal.returns-in-Used
+returns-in-Used c = rw c.in-Used.is (adds_as c.marked_entry.ensures (used_marked c.in-Used.offset c.in-Used.generation))
 
-pub padded-requires : goal.padded-requires
-padded-requires c = let l = padded_length 10 c.args.one.field [] in omega arith
-
-pub byte-requires-2 : goal.byte-requires-2
-byte-requires-2 c =
-    let l = padded_length 10 c.args.one.field [] in
-    let k = padded_length 5 c.args.one.generation [] in
-    omega arith
-
-pub byte-requires-3 : goal.byte-requires-3
-byte-requires-3 c =
-    let l = padded_length 10 c.args.one.field [] in
-    let k = padded_length 5 c.args.one.generation [] in
-    omega arith
-
-pub entry_end-requires : goal.entry_end-requires
-entry_end-requires c =
-    let l = padded_length 10 c.args.one.field [] in
-    let k = padded_length 5 c.args.one.generation [] in
-    omega arith
-
-pub returns : goal.returns
-returns c =
-    adds_as
-    (adds_then c.ten_digits.ensures
-    (adds_then c.byte.ensures
-    (adds_then c.padded.ensures
-    (adds_then c.byte-2.ensures
-    (adds_then (adds_as c.byte-3.ensures (ap (λ (m : ℕ). m ∷ []) (c.mark.ensures ∙ mark_is c.args.one.in_use))) c.entry_end.ensures)))))
-    (slot_parts (slot_of c.args.one))
+pub returns-in-Free : goal.returns-in-Free
+returns-in-Free c = rw c.in-Free.is (adds_as c.marked_entry-in-Free.ensures (free_marked c.in-Free.next c.in-Free.generation))
