@@ -1,21 +1,29 @@
 -- Bodies by how they start.
-use Rattle.std.proofs.Common.{◌≡◌, ℕ, suc, ◌<◌, ◌≤◌, true, false, ◌||◌, eqb, [], ◌∷◌, length, get_or, drop, ℤ, pos, negsuc, Some, None, codes, Option, sym, refl, ap, ◌∙◌, arith, length-drop}
+use Rattle.std.proofs.Common.{◌≡◌, ℕ, suc, ◌<◌, ◌≤◌, Bool, true, false, [], ◌∷◌, length, drop, ℤ, pos, negsuc, Some, None, Ok, Err, codes, Option, Result, w64, SFits, sym, refl, ap, ◌∙◌, arith, length-drop}
+use Rattle.std.proofs.lemmas.Int.{ints}
+use Rattle.std.specs.Bool.{then_some}
+use Rattle.std.specs.Int.{FitsUnsignedBits}
+use Rattle.std.specs.Int.RustNames.{unsigned_abs}
+use Rattle.std.specs.Result.{result_ok, OkIff}
 use Rattle.faults.specs.declared.fault.Fault.{Fault}
 use Rattle.faults.specs.declared.reason.Reason.TheVariants.{OutsideBody}
-use Rattle.format.specs.Bytes.{Bytes, Got, ok, bad, then, is_white}
+use Rattle.format.specs.Bytes.{Bytes, Got, ok, bad, then}
 use Rattle.format.specs.Failures.{object_fault}
 use Rattle.format.specs.Strings.{turns}
 use Rattle.format.specs.Tokens.{Token, token_at}
 use Rattle.format.specs.Objects.{Obj, null, boolean, integer, decimal, literal, hexadecimal, named, array, dict, ref, Objs, Entries, no_entries, Reader, is_word, items, entries, one, in_array, in_dict, object_by, object, value_of}
 use Rattle.format.specs.Frames.{length_of, entries_of, length_here, stream_line, stream_rest, streamed, body_at, starts_loose, body_ends, body_fault}
+use Rattle.lexer.specs.declared.token.Found.{Found}
+use Rattle.lexer.specs.Views.{kind_of, found_token, Placed}
 use Rattle.objects.specs.declared.shape.Shape.{Shape}
 use Rattle.objects.specs.declared.shape.Shape.TheVariants as shapes
 use Rattle.objects.specs.declared.shape.Value.{Value}
 use Rattle.objects.specs.Shapes.{shape_of, shaped, shaped_maybe, shape_in, is_dict}
 use Rattle.objects.specs.Extents.{entries_by, read_by, find}
 use Rattle.objects.specs.Steps.{bare, token_in}
-use Rattle.objects.specs.Bodies.{length_shape, length_in, rest_got, StreamWord}
+use Rattle.objects.specs.Bodies.{natural_of, length_shape, length_in, rest_got, StreamWord}
 use Rattle.objects.proofs.Cases.{cases_o}
+use Rattle.objects.proofs.Founds.{found_kind, found_from, found_ends, word_moves}
 use Rattle.objects.proofs.Extents.{entries_checked, read_checked}
 use Rattle.objects.proofs.Walks.{finds}
 use Rattle.objects.proofs.Turns.{shaped_ok}
@@ -132,18 +140,6 @@ module _ (src : Bytes) (p : ℕ) where
           let m = entered.1 in
           g ∙ ap (λ x. rest_got x w r (drop r src)) (sym l) ∙ sym (rest_is es (token_in src q) w r (drop r src) a t.to t.rest) ∙ rw (body_is, m, n, streamed) (sym (bare_rest (stream_rest es (token_in src q)) (dict es)))
 
--- no byte stands first
-pub loose_none : (b : Bytes) → length b ≡ 0 → false ≡ starts_loose b
-unfolding starts_loose
-loose_none [] h = refl
-loose_none (x ∷ xs) h = absurd (omega arith)
-
--- the first byte decides
-pub loose_some : (b : Bytes) → (length b ≡ 0 → ⊥) → is_white (get_or b 0 0) || eqb (get_or b 0 0) 37 ≡ starts_loose b
-unfolding starts_loose
-loose_some [] h = absurd (h refl)
-loose_some (x ∷ xs) h = refl
-
 -- a body behind white space or a comment
 pub put_loose : (b : Bytes) → starts_loose b ≡ true → Some (object_fault OutsideBody 0) ≡ body_fault b
 unfolding body_fault
@@ -202,3 +198,19 @@ no_length (shapes.Reference n g) h = refl
 -- the end of line behind `stream` is refused
 pub line_refused : (o : Option ℕ) (len w q : ℕ) (ys : Bytes) (f : Fault) → Some len ≡ o → bad f ≡ stream_line q ys → bad f ≡ rest_got o w q ys
 line_refused o len w q ys f e h = let d = sym h in rw (sym e, d) refl
+
+-- the word `stream` where it stands next
+pub word_stands : (src : Bytes) (p : ℕ) (f : Found) (b : Bool) (r : Option (ℕ × ℕ)) → token_in src p ≡ found_token src f → Placed src p f → b ≡ is_word (codes "stream") (kind_of f.token) → r ≡ then_some b (f.from, f.to) →
+    StreamWord src p r
+word_stands src p f true r e h i j = rw j (ap (is_word (codes "stream")) (found_kind src p f e) ∙ sym i, found_from src p f e, found_ends src p f e h (word_moves _ _ _ _ _ (sym i) h.moves))
+word_stands src p f false r e h i j = rw j (ap (is_word (codes "stream")) (found_kind src p f e) ∙ sym i)
+
+-- an integer as a count
+pub natural_is : {E : Type 0} (z i : ℤ) (r : Result ℕ E) → i ≡ z → SFits w64 z → OkIff r (FitsUnsignedBits 64 i) (unsigned_abs i) → result_ok r ≡ natural_of z
+natural_is z i r e f h = go z r f (rw e at h)
+  where
+    go : {E : Type 0} (z : ℤ) (r : Result ℕ E) → SFits w64 z → OkIff r (FitsUnsignedBits 64 z) (unsigned_abs z) → result_ok r ≡ natural_of z
+    go (pos n) (Ok x) f h = ap Some h.1
+    go (pos n) (Err x) f h = absurd (h (omega (arith, ints)))
+    go (negsuc n) (Ok x) f h = absurd h.0
+    go (negsuc n) (Err x) f h = refl

@@ -1,10 +1,10 @@
 -- Ways to go by the value of a term, with the equation at hand.
-use Rattle.std.proofs.Common.{◌≡◌, ℕ, ◌<◌, ◌≤◌, Bool, true, false, IfOk, Some, None, Ok, Err, Option, Result, refl, arith}
+use Rattle.std.proofs.Common.{◌≡◌, ℕ, ◌<◌, ◌≤◌, Bool, true, false, IfOk, MatchResult, Some, None, Ok, Err, Option, Result, refl, ap, arith}
+use Rattle.std.specs.Option.{ok_or}
+use Rattle.std.specs.Result.{result_ok, IsErrAnd}
 use Rattle.faults.specs.declared.fault.Fault.{Fault}
 use Rattle.format.specs.Bytes.{Bytes, Got, ok, bad, then}
-use Rattle.objects.specs.declared.shape.Extent.{Extent}
-use Rattle.objects.specs.declared.shape.Shape.{Shape}
-use Rattle.objects.specs.Steps.{seen, placed}
+use Rattle.objects.specs.Shifts.{later_fault}
 
 -- by a test
 pub cases : {P : Type 0} (b : Bool) → (b ≡ true → P) → (b ≡ false → P) → P
@@ -26,6 +26,38 @@ pub cases_o : {A P : Type 0} (o : Option A) → (o ≡ None → P) → ((a : A) 
 cases_o None f g = f refl
 cases_o (Some a) f g = g a refl
 
+-- what an answer without its refusal was
+pub ok_some : {T E : Type 0} (r : Result T E) (x : T) → Some x ≡ result_ok r → r ≡ Ok x
+ok_some (Ok y) x h = let z : x ≡ y = cc in rw z refl
+ok_some (Err e) x h = absurd (let z : ◌≡◌ {A = ℕ} 0 1 = cc in omega arith)
+
+pub ok_none : {T E : Type 0} (r : Result T E) → None ≡ result_ok r → (e : E) × (r ≡ Err e)
+ok_none (Ok y) h = absurd (let z : ◌≡◌ {A = ℕ} 0 1 = cc in omega arith)
+ok_none (Err e) h = (e, refl)
+
+-- an option, or a refusal in its stead
+pub ok_or_ok : {T E : Type 0} (o : Option T) (e : E) (x : T) → Ok x ≡ ok_or o e → Some x ≡ o
+ok_or_ok None e x h = absurd (let z : ◌≡◌ {A = ℕ} 0 1 = cc in omega arith)
+ok_or_ok (Some y) e x h = cc
+
+pub ok_or_err : {T E : Type 0} (o : Option T) (e f : E) → Err f ≡ ok_or o e → (None ≡ o) × (f ≡ e)
+ok_or_err None e f h = (refl, cc)
+ok_or_err (Some y) e f h = absurd (let z : ◌≡◌ {A = ℕ} 0 1 = cc in omega arith)
+
+-- the same answer, where the place of a refusal is later by b
+abbrev pub Moved : {T : Type 0} → ℕ → Result T Fault → Result T Fault → Type 0
+Moved b r s = MatchResult r (λ x. s ≡ Ok x) (λ f. IsErrAnd s (λ g. g ≡ later_fault b f))
+
+pub moved_ok : {T : Type 0} (b : ℕ) (r s : Result T Fault) (x : T) → Moved b r s → s ≡ Ok x → r ≡ Ok x
+moved_ok b (Ok y) s x m e = cc
+moved_ok b (Err f) (Ok y) x m e = absurd m
+moved_ok b (Err f) (Err g) x m e = absurd (let z : ◌≡◌ {A = ℕ} 0 1 = cc in omega arith)
+
+pub moved_err : {T : Type 0} (b : ℕ) (r s : Result T Fault) (g : Fault) → Moved b r s → s ≡ Err g → (f : Fault) × (r ≡ Err f) × (g ≡ later_fault b f)
+moved_err b (Ok y) s g m e = absurd (let z : ◌≡◌ {A = ℕ} 0 1 = cc in omega arith)
+moved_err b (Err f) (Ok y) g m e = absurd m
+moved_err b (Err f) (Err h) g m e = let i : g ≡ h = cc in (f, refl, rw i m)
+
 -- a test is not both
 pub not_both : {P : Type 0} (b : Bool) → b ≡ true → b ≡ false → P
 not_both b e f = absurd (let z : ◌≡◌ {A = ℕ} 0 1 = cc in omega arith)
@@ -36,8 +68,6 @@ further (Ok q) a b n h (l, m) = (omega arith, m)
 further (Err f) a b n h l = tt
 
 -- a refusal that is handed up
-pub handed_up : (src : Bytes) (g : Got Unit) (r : Result ℕ Fault) (f : Fault) → r ≡ Err f → bad f ≡ g → placed src r ≡ g
-handed_up src g r f z e = rw z e
-
-pub seen_handed : (src : Bytes) (g : Got Shape) (r : Result Extent Fault) (f : Fault) → r ≡ Err f → bad f ≡ g → seen src r ≡ g
-seen_handed src g r f z e = rw z e
+pub handed : {T : Type 0} (r : Result T Fault) (f : Fault) → IsErrAnd r (λ g. g ≡ f) → r ≡ Err f
+handed (Ok x) f h = absurd h
+handed (Err g) f h = ap Err h

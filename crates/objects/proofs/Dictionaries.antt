@@ -1,9 +1,8 @@
 -- A dictionary that has to stand next, as the code reads it.
-use Rattle.std.proofs.Common.{◌≡◌, ℕ, ◌+◌, ◌<◌, ◌≤◌, true, length, drop, Some, None, Ok, sym, refl, ap, ◌∙◌, arith, length-drop}
+use Rattle.std.proofs.Common.{◌≡◌, ℕ, ◌+◌, ◌<◌, ◌≤◌, true, length, drop, MatchResult, Some, None, Ok, Err, Result, sym, refl, ap, ◌∙◌, arith, length-drop}
 use Rattle.faults.specs.declared.fault.Fault.{Fault}
-use Rattle.faults.specs.declared.reason.Reason.TheVariants.{BytesEnd, BadToken}
+use Rattle.faults.specs.declared.reason.Reason.TheVariants.{BadToken}
 use Rattle.format.specs.Bytes.{Bytes, ok, bad, then}
-use Rattle.format.specs.Failures.{object_fault}
 use Rattle.format.specs.Strings.{turns}
 use Rattle.format.specs.Tokens.{token_at}
 use Rattle.format.specs.Objects.{Entries, no_entries, entries, object_by}
@@ -16,7 +15,8 @@ use Rattle.objects.specs.declared.dictionary.Dictionary.{Dictionary}
 use Rattle.objects.specs.Dictionaries.{Opening, Opened, OpenedAt}
 use Rattle.objects.specs.Extents.{entries_by, read_by}
 use Rattle.objects.specs.Shifts.{later_fault}
-use Rattle.objects.specs.Steps.{bare, token_in}
+use Rattle.objects.specs.Steps.{bare, token_in, misplaced}
+use Rattle.objects.proofs.Cases.{Moved}
 use Rattle.objects.proofs.Ends.{entries_read}
 use Rattle.objects.proofs.Founds.{flawed_kind}
 use Rattle.objects.proofs.Frames.{bare_ok, bare_bad}
@@ -24,20 +24,20 @@ use Rattle.objects.proofs.PlacesOfFrames.{faults_within}
 use Rattle.objects.proofs.ShiftedTrailers.{later_trailer, trailer_later}
 
 -- another token stands for the `<<`
-other : (q : ℕ) (t : Token) → (t ≡ OpenDict → ⊥) → (t ≡ End → ⊥) → no_dict q (kind_of t) ≡ Some (object_fault BadToken q)
-unfolding no_dict
-other q (Unsigned n) h i = refl
-other q (Signed z) h i = refl
-other q (Real s) h i = refl
-other q (Name s) h i = refl
-other q (Text s) h i = refl
-other q (Hex s) h i = refl
-other q (Word s) h i = refl
-other q OpenArray h i = refl
-other q CloseArray h i = refl
-other q OpenDict h i = absurd (h refl)
-other q CloseDict h i = refl
-other q End h i = absurd (i refl)
+other : (q : ℕ) (t : Token) → (t ≡ OpenDict → ⊥) → no_dict q (kind_of t) ≡ Some (misplaced BadToken q t)
+unfolding no_dict misplaced
+other q (Unsigned n) h = refl
+other q (Signed z) h = refl
+other q (Real s) h = refl
+other q (Name s) h = refl
+other q (Text s) h = refl
+other q (Hex s) h = refl
+other q (Word s) h = refl
+other q OpenArray h = refl
+other q CloseArray h = refl
+other q OpenDict h = absurd (h refl)
+other q CloseDict h = refl
+other q End h = refl
 
 module _ (src : Bytes) (p : ℕ) (f : Found) (e : token_in src p ≡ found_token src f) where
   found_no : no_dict (token_in src p).from (token_in src p).kind ≡ no_dict f.from (kind_of f.token)
@@ -47,12 +47,8 @@ module _ (src : Bytes) (p : ℕ) (f : Found) (e : token_in src p ≡ found_token
   unfolding no_dict
   opens t = found_no ∙ ap (λ u. no_dict f.from (kind_of u)) t
 
-  pub opens_end : f.token ≡ End → (x : Fault) → x ≡ object_fault BytesEnd f.from → no_dict (token_in src p).from (token_in src p).kind ≡ Some x
-  unfolding no_dict
-  opens_end t x h = found_no ∙ ap (λ u. no_dict f.from (kind_of u)) t ∙ ap Some (sym h)
-
-  pub opens_other : (f.token ≡ OpenDict → ⊥) → (f.token ≡ End → ⊥) → (x : Fault) → x ≡ object_fault BadToken f.from → no_dict (token_in src p).from (token_in src p).kind ≡ Some x
-  opens_other h i x j = found_no ∙ other f.from f.token h i ∙ ap Some (sym j)
+  pub opens_other : (f.token ≡ OpenDict → ⊥) → (x : Fault) → x ≡ misplaced BadToken f.from f.token → no_dict (token_in src p).from (token_in src p).kind ≡ Some x
+  opens_other h x j = found_no ∙ other f.from f.token h ∙ ap Some (sym j)
 
 -- a token that cannot be read
 pub opens_flawed : (src : Bytes) (p : ℕ) (x : Fault) → token_fault_of (token_in src p) ≡ Some x → no_dict (token_in src p).from (token_in src p).kind ≡ Some x
@@ -82,11 +78,18 @@ module _ (src : Bytes) (p : ℕ) (m i : ℕ) (h : Opening src p (Ok (m, i))) whe
       whole (es, k) = record { tree = es; trailer = behind ∙ rw k refl; inside = k; laid = record { starts = h.3; opens = h.4; closes = l; ends = n } }
 
 -- the dictionary in bytes that start at a place of the file
-pub opened_at : (b : ℕ) (src : Bytes) (p : ℕ) (d : Dictionary) → Opened src p d → OpenedAt b src p d
+opened_at : (b : ℕ) (src : Bytes) (p : ℕ) (d : Dictionary) → Opened src p d → OpenedAt b src p d
 opened_at b src p d o = record { tree = o.tree; trailer = trailer_later b p (drop p src) ∙ ap (later_trailer b) o.trailer; inside = o.inside; laid = o.laid }
 
-pub refused_at : (b : ℕ) (src : Bytes) (p : ℕ) (f g : Fault) → trailer_at (token_in src p) ≡ bad f → g ≡ later_fault b f → trailer_at (token_at (b + p) (drop p src)) ≡ bad g
+refused_at : (b : ℕ) (src : Bytes) (p : ℕ) (f g : Fault) → trailer_at (token_in src p) ≡ bad f → g ≡ later_fault b f → trailer_at (token_at (b + p) (drop p src)) ≡ bad g
 refused_at b src p f g e z = trailer_later b p (drop p src) ∙ ap (later_trailer b) e ∙ ap bad (sym z)
 
 pub refused_within : (src : Bytes) (p : ℕ) (f : Fault) → p ≤ length src → trailer_at (token_in src p) ≡ bad f → f.place ≤ length src
 refused_within src p f h e = let l = length-drop p src in let g = faults_within.trailers p (drop p src) f e in omega arith
+
+-- the dictionary, or a fault at its place of the file
+pub dictionary_moved : (b : ℕ) (src : Bytes) (p : ℕ) (r s : Result Dictionary Fault) → MatchResult r (Opened src p) (λ f. trailer_at (token_in src p) ≡ bad f) → Moved b r s →
+    MatchResult s (OpenedAt b src p) (λ f. trailer_at (token_at (b + p) (drop p src)) ≡ bad f)
+dictionary_moved b src p (Ok d) s h m = rw m (opened_at b src p d h)
+dictionary_moved b src p (Err f) (Ok d) h m = absurd m
+dictionary_moved b src p (Err f) (Err g) h m = refused_at b src p f g h m

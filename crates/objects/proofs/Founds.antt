@@ -1,20 +1,21 @@
 -- What a token that was found means where it stands.
 use Rattle.std.proofs.Common.{◌≡◌, ℕ, ◌<◌, true, false, drop, pos, Some, None, codes, Option, refl, ap, arith}
 use Rattle.faults.specs.declared.fault.Fault.{Fault}
+use Rattle.faults.specs.declared.reason.Reason.{Reason}
 use Rattle.faults.specs.declared.reason.Reason.TheVariants.{BadToken}
 use Rattle.format.specs.Bytes.{Bytes, Got, ok, bad, same}
 use Rattle.format.specs.Failures.{object_fault}
 use Rattle.format.specs.Tokens as format
-use Rattle.format.specs.Tokens.{token_at, flaw_fault}
+use Rattle.format.specs.Tokens.{flaw_fault}
 use Rattle.format.specs.Objects.{Reader, plain_int, plain_word, is_word, word_obj, of_token, closes_array, fails, next, one}
 use Rattle.lexer.specs.declared.token.Token.{Token}
 use Rattle.lexer.specs.declared.token.Token.TheVariants.{Unsigned, Signed, Real, Name, Text, Hex, Word, OpenArray, CloseArray, OpenDict, CloseDict, End}
 use Rattle.lexer.specs.declared.token.Found.{Found}
-use Rattle.lexer.specs.Views.{kind_of, found_token, token_fault_of, kind_fault, Placed}
+use Rattle.lexer.specs.Views.{kind_of, found_token, token_fault_of, kind_fault, Moves, Placed}
 use Rattle.objects.specs.declared.shape.Shape.{Shape}
 use Rattle.objects.specs.declared.shape.Shape.TheVariants as shapes
 use Rattle.objects.specs.Shapes.{shaped, is_dict}
-use Rattle.objects.specs.Steps.{token_in, next_in, EndsAt, word_shape}
+use Rattle.objects.specs.Steps.{token_in, next_in, EndsAt, misplaced, word_shape}
 use Rattle.objects.proofs.Cases.{cases}
 
 -- a token that cannot be read has a flaw
@@ -96,21 +97,37 @@ no_array_end OpenDict h = refl
 no_array_end CloseDict h = refl
 no_array_end End h = refl
 
--- a token that is neither a key nor a dictionary's end nor the end of the bytes
-pub no_entry : (p : ℕ) (t : Token) → ((s : _) → t ≡ Name s → ⊥) → (t ≡ CloseDict → ⊥) → (t ≡ End → ⊥) → next p (kind_of t) ≡ fails (object_fault BadToken p)
-unfolding next
-no_entry p (Unsigned n) h i j = refl
-no_entry p (Signed z) h i j = refl
-no_entry p (Real s) h i j = refl
-no_entry p (Name s) h i j = absurd (h s refl)
-no_entry p (Text s) h i j = refl
-no_entry p (Hex s) h i j = refl
-no_entry p (Word s) h i j = refl
-no_entry p OpenArray h i j = refl
-no_entry p CloseArray h i j = refl
-no_entry p OpenDict h i j = refl
-no_entry p CloseDict h i j = absurd (i refl)
-no_entry p End h i j = absurd (j refl)
+-- a token that is neither a key nor a dictionary's end
+pub no_entry : (p : ℕ) (t : Token) → ((s : _) → t ≡ Name s → ⊥) → (t ≡ CloseDict → ⊥) → next p (kind_of t) ≡ fails (misplaced BadToken p t)
+unfolding next misplaced
+no_entry p (Unsigned n) h i = refl
+no_entry p (Signed z) h i = refl
+no_entry p (Real s) h i = refl
+no_entry p (Name s) h i = absurd (h s refl)
+no_entry p (Text s) h i = refl
+no_entry p (Hex s) h i = refl
+no_entry p (Word s) h i = refl
+no_entry p OpenArray h i = refl
+no_entry p CloseArray h i = refl
+no_entry p OpenDict h i = refl
+no_entry p CloseDict h i = absurd (i refl)
+no_entry p End h i = refl
+
+-- a token that is not the end of the bytes does not fit for the reason
+pub misplaced_other : (r : Reason) (p : ℕ) (t : Token) → (t ≡ End → ⊥) → misplaced r p t ≡ object_fault r p
+unfolding misplaced
+misplaced_other r p (Unsigned n) h = refl
+misplaced_other r p (Signed z) h = refl
+misplaced_other r p (Real s) h = refl
+misplaced_other r p (Name s) h = refl
+misplaced_other r p (Text s) h = refl
+misplaced_other r p (Hex s) h = refl
+misplaced_other r p (Word s) h = refl
+misplaced_other r p OpenArray h = refl
+misplaced_other r p CloseArray h = refl
+misplaced_other r p OpenDict h = refl
+misplaced_other r p CloseDict h = refl
+misplaced_other r p End h = absurd (h refl)
 
 -- a token that is no integer without a sign
 pub no_int : (t : Token) → ((n : ℕ) → t ≡ Unsigned n → ⊥) → plain_int (kind_of t) ≡ None
@@ -143,6 +160,22 @@ no_word w CloseArray h = refl
 no_word w OpenDict h = refl
 no_word w CloseDict h = refl
 no_word w End h = refl
+
+-- a word takes a byte
+pub word_moves : (w : Bytes) (t : Token) (p q n : ℕ) → is_word w (kind_of t) ≡ true → Moves t p q n → p < q
+unfolding is_word plain_word
+word_moves w (Unsigned k) p q n e h = h
+word_moves w (Signed z) p q n e h = h
+word_moves w (Real s) p q n e h = h
+word_moves w (Name s) p q n e h = h
+word_moves w (Text s) p q n e h = h
+word_moves w (Hex s) p q n e h = h
+word_moves w (Word s) p q n e h = h
+word_moves w OpenArray p q n e h = h
+word_moves w CloseArray p q n e h = h
+word_moves w OpenDict p q n e h = h
+word_moves w CloseDict p q n e h = h
+word_moves w End p q n e h = absurd (let z : ◌≡◌ {A = ℕ} 0 1 = cc in omega arith)
 
 -- a word
 pub the_word_fact : (v : Bytes) (k : format.Kind) (w : Bytes) → k ≡ format.word w → is_word v k ≡ same v w

@@ -1,44 +1,38 @@
 -- Frames, part by part.
-use Rattle.std.proofs.Common.{◌≡◌, ℕ, true, false, eqb, drop, IfOk, Some, None, Err, codes, Result, sym, refl, ap, ◌∙◌, arith}
+use Rattle.std.proofs.Common.{◌≡◌, ℕ, true, false, eqb, drop, Some, None, codes, sym, refl, ap, ◌∙◌, arith}
 use Rattle.std.proofs.lemmas.Bool.{eq-eqb, ne_eqb}
 use Rattle.faults.specs.declared.fault.Fault.{Fault}
-use Rattle.faults.specs.declared.reason.Reason.TheVariants.{BytesEnd, BadFrame}
+use Rattle.faults.specs.declared.reason.Reason.TheVariants.{BadFrame}
 use Rattle.format.specs.Bytes.{Bytes, Got, ok, bad, up_to}
 use Rattle.format.specs.Failures.{object_fault}
 use Rattle.format.specs.Space.{skip}
 use Rattle.format.specs.Tokens as format
-use Rattle.format.specs.Tokens.{token_at, start_at, flaw_fault}
-use Rattle.format.specs.Objects.{plain_int, plain_word, is_word}
+use Rattle.format.specs.Tokens.{token_at}
+use Rattle.format.specs.Objects.{plain_int, is_word}
 use Rattle.format.specs.Frames.{body_at, unfit, the_word, the_int, Framed, framed_body, frame_number, frame}
 use Rattle.lexer.specs.declared.token.Token.{Token}
 use Rattle.lexer.specs.declared.token.Token.TheVariants.{Unsigned, Signed, Real, Name, Text, Hex, Word, OpenArray, CloseArray, OpenDict, CloseDict, End}
 use Rattle.lexer.specs.declared.token.Found.{Found}
 use Rattle.lexer.specs.Views.{kind_of, found_token, token_fault_of}
-use Rattle.objects.specs.Steps.{bare, token_in}
-use Rattle.objects.specs.declared.frame.Frame.{Frame}
-use Rattle.objects.specs.Framing.{int_got, head_of, framed, Ordered}
-use Rattle.objects.proofs.Founds.{flawed_kind, found_kind, found_from, no_int, no_word}
+use Rattle.objects.specs.Steps.{bare, token_in, misplaced}
+use Rattle.objects.specs.Framing.{head_of}
+use Rattle.objects.proofs.Founds.{flawed_kind, found_kind, found_from, no_int}
 
--- the bytes end where a part should be
-pub unfit_end : (p : ℕ) (t : Token) → t ≡ End → object_fault BytesEnd p ≡ unfit p (kind_of t)
-unfolding unfit
-unfit_end p t e = rw e refl
-
--- another token stands where a part should be
-pub unfit_other : (p : ℕ) (t : Token) → (t ≡ End → ⊥) → object_fault BadFrame p ≡ unfit p (kind_of t)
-unfolding unfit
-unfit_other p (Unsigned n) h = refl
-unfit_other p (Signed z) h = refl
-unfit_other p (Real s) h = refl
-unfit_other p (Name s) h = refl
-unfit_other p (Text s) h = refl
-unfit_other p (Hex s) h = refl
-unfit_other p (Word s) h = refl
-unfit_other p OpenArray h = refl
-unfit_other p CloseArray h = refl
-unfit_other p OpenDict h = refl
-unfit_other p CloseDict h = refl
-unfit_other p End h = absurd (h refl)
+-- a token that stands where another part should be
+unfit_other : (p : ℕ) (t : Token) → misplaced BadFrame p t ≡ unfit p (kind_of t)
+unfolding unfit misplaced
+unfit_other p (Unsigned n) = refl
+unfit_other p (Signed z) = refl
+unfit_other p (Real s) = refl
+unfit_other p (Name s) = refl
+unfit_other p (Text s) = refl
+unfit_other p (Hex s) = refl
+unfit_other p (Word s) = refl
+unfit_other p OpenArray = refl
+unfit_other p CloseArray = refl
+unfit_other p OpenDict = refl
+unfit_other p CloseDict = refl
+unfit_other p End = refl
 
 -- a part that cannot be read
 pub unfit_flawed : (t : format.Token) (x : Fault) → token_fault_of t ≡ Some x → x ≡ unfit t.from t.kind
@@ -67,34 +61,16 @@ word_missing w t f e g = rw (e, the_word) (ap bad g)
 
 module _ (src : Bytes) (p : ℕ) (f : Found) (e : token_in src p ≡ found_token src f) where
   -- the fault of a token that was found and does not fit
-  unfit_found : (x : Fault) → x ≡ unfit f.from (kind_of f.token) → x ≡ unfit (token_in src p).from (token_in src p).kind
-  unfit_found x h = rw (found_from src p f e, found_kind src p f e) h
-
-  -- the bytes end before an integer
-  pub end_int : f.token ≡ End → (x : Fault) → x ≡ object_fault BytesEnd f.from → bad x ≡ the_int (token_in src p)
-  unfolding plain_int
-  end_int t x h = int_missing (token_in src p) x (ap plain_int (found_kind src p f e) ∙ ap (λ u. plain_int (kind_of u)) t) (unfit_found x (h ∙ unfit_end f.from f.token t))
+  unfit_found : (x : Fault) → x ≡ misplaced BadFrame f.from f.token → x ≡ unfit (token_in src p).from (token_in src p).kind
+  unfit_found x h = rw (found_from src p f e, found_kind src p f e) (h ∙ unfit_other f.from f.token)
 
   -- another token stands for an integer
-  pub other_int : ((n : ℕ) → f.token ≡ Unsigned n → ⊥) → (f.token ≡ End → ⊥) → (x : Fault) → x ≡ object_fault BadFrame f.from → bad x ≡ the_int (token_in src p)
-  other_int i t x h = int_missing (token_in src p) x (ap plain_int (found_kind src p f e) ∙ no_int f.token i) (unfit_found x (h ∙ unfit_other f.from f.token t))
-
-  -- the bytes end before a word
-  pub end_word : (w : Bytes) → f.token ≡ End → (x : Fault) → x ≡ object_fault BytesEnd f.from → bad x ≡ the_word w (token_in src p)
-  unfolding is_word plain_word
-  end_word w t x h = word_missing w (token_in src p) x (ap (is_word w) (found_kind src p f e) ∙ ap (λ u. is_word w (kind_of u)) t) (unfit_found x (h ∙ unfit_end f.from f.token t))
+  pub other_int : ((n : ℕ) → f.token ≡ Unsigned n → ⊥) → (x : Fault) → x ≡ misplaced BadFrame f.from f.token → bad x ≡ the_int (token_in src p)
+  other_int i x h = int_missing (token_in src p) x (ap plain_int (found_kind src p f e) ∙ no_int f.token i) (unfit_found x h)
 
   -- another token stands for a word
-  pub other_word : (w : Bytes) → ((s : _) → f.token ≡ Word s → ⊥) → (f.token ≡ End → ⊥) → (x : Fault) → x ≡ object_fault BadFrame f.from → bad x ≡ the_word w (token_in src p)
-  other_word w i t x h = word_missing w (token_in src p) x (ap (is_word w) (found_kind src p f e) ∙ no_word w f.token i) (unfit_found x (h ∙ unfit_other f.from f.token t))
-
-  -- another word
-  pub wrong_word : (w : Bytes) → (f.token ≡ End → ⊥) → is_word w (token_in src p).kind ≡ false → (x : Fault) → x ≡ object_fault BadFrame f.from → bad x ≡ the_word w (token_in src p)
-  wrong_word w t i x h = word_missing w (token_in src p) x i (unfit_found x (h ∙ unfit_other f.from f.token t))
-
--- a word is not the end
-pub word_no_end : (t : Token) (s : _) → t ≡ Word s → t ≡ End → ⊥
-word_no_end t s e f = let z : ◌≡◌ {A = ℕ} 0 1 = cc in omega arith
+  pub other_word : (w : Bytes) → is_word w (kind_of f.token) ≡ false → (x : Fault) → x ≡ misplaced BadFrame f.from f.token → bad x ≡ the_word w (token_in src p)
+  other_word w i x h = word_missing w (token_in src p) x (ap (is_word w) (found_kind src p f e) ∙ i) (unfit_found x h)
 
 pub bare_bad : {A : Type 0} (r : Got A) (f : Fault) → bad f ≡ bare r → r ≡ bad f
 bare_bad (ok a q ys) f e = absurd (let z : ◌≡◌ {A = ℕ} 0 1 = cc in omega arith)
@@ -162,10 +138,3 @@ module _ (src : Bytes) (s : ℕ) (e : skip false 0 (drop 0 src) ≡ (s, drop s s
   pub frame_there : (n q : ℕ) (z : Got Framed) → ok n q (drop q src) ≡ the_int (token_in src 0) → z ≡ head_of n q (drop q src) → z ≡ frame 0 src
   unfolding frame
   frame_there n q z i j = let d = sym i in rw (number_is, d) j
-
--- a refusal that is handed up
-pub frame_refused : (src : Bytes) (n : ℕ) (r : Result Frame Fault) (f : Fault) (g : Got Framed) → r ≡ Err f → bad f ≡ g → (framed src r ≡ g) × IfOk r (Ordered n)
-frame_refused src n r f g z e = (rw z e, rw z tt)
-
-pub int_handed : (src : Bytes) (g : Got ℕ) (r : Result (ℕ × ℕ) Fault) (f : Fault) → r ≡ Err f → bad f ≡ g → int_got src r ≡ g
-int_handed src g r f z e = rw z e

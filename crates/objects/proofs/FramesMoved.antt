@@ -1,5 +1,5 @@
 -- A frame whose places count in the file.
-use Rattle.std.proofs.Common.{◌≡◌, ℕ, ◌+◌, ◌-◌, ◌≤◌, length, Ok, sym, ap, ◌∙◌, arith}
+use Rattle.std.proofs.Common.{◌≡◌, ℕ, ◌+◌, ◌-◌, ◌≤◌, length, IfErr, Ok, Err, Result, sym, ap, ◌∙◌, arith}
 use Rattle.faults.specs.declared.fault.Fault.{Fault}
 use Rattle.format.specs.Bytes.{Bytes, bad, up_to}
 use Rattle.format.specs.Frames.{frame}
@@ -26,5 +26,6 @@ frame_moved b src f r e (l, m, n) z =
 pub fault_moved : (b : ℕ) (src : Bytes) (f g : Fault) → bad f ≡ frame 0 src → g ≡ later_fault b f → bad g ≡ frame b src
 fault_moved b src f g e z = rw z (ap (later_frame b) e ∙ at_base b src)
 
-pub fault_within : (src : Bytes) (f : Fault) → bad f ≡ frame 0 src → f.place ≤ length src
-fault_within src f e = let h = faults_within.frames 0 src f (sym e) in omega arith
+pub fault_within : (src : Bytes) (r : Result Frame Fault) → framed src r ≡ frame 0 src → IfErr r (λ f. f.place ≤ length src)
+fault_within src (Ok f) e = tt
+fault_within src (Err f) e = let h = faults_within.frames 0 src f (sym e) in omega arith

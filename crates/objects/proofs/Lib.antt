@@ -4,8 +4,10 @@ pub mod Walks
 pub mod Turns
 pub mod Nested
 pub mod Founds
+pub mod Starts
 pub mod References
 pub mod Streams
+pub mod StreamEnds
 pub mod Bodies
 pub mod Frames
 pub mod Ends

@@ -1,5 +1,5 @@
 -- An object by how it starts, and what stands inside it.
-use Rattle.std.proofs.Common.{◌≡◌, ℕ, zero, suc, ◌-◌, Bool, drop, sym, refl, ap, ◌∙◌, arith}
+use Rattle.std.proofs.Common.{◌≡◌, ℕ, zero, suc, Bool, drop, sym, refl, ap, ◌∙◌, arith}
 use Rattle.faults.specs.declared.fault.Fault.{Fault}
 use Rattle.faults.specs.declared.reason.Reason.TheVariants.{TooDeep}
 use Rattle.format.specs.Bytes.{Bytes, Got, ok, bad, then}
@@ -43,31 +43,29 @@ module _ (c : Bool) (d : ℕ) (src : Bytes) (p s q : ℕ) where
     unfolding read_by too_deep
     dict_deep e = rw e (ap shaped (sym (h too_deep too_deep)))
 
-module _ (c : Bool) (src : Bytes) (p s q : ℕ) where
+module _ (c : Bool) (d : ℕ) (src : Bytes) (p s q : ℕ) where
   module _ (h : (A D : ℕ → Reader) → one A D p (drop p src) ≡ A s q (drop q src)) where
-    array_in : (d : ℕ) → (d ≡ 0 → ⊥) → shaped (then (items (read_by c (d - 1)) turns q (drop q src)) (λ os a ys. ok (array os) a ys)) ≡ shaped (read_by c d p (drop p src))
+    array_in : shaped (then (items (read_by c d) turns q (drop q src)) (λ os a ys. ok (array os) a ys)) ≡ shaped (read_by c (suc d) p (drop p src))
     unfolding read_by in_array
-    array_in zero n = absurd (n refl)
-    array_in (suc d) n = let m : suc d - 1 ≡ d = omega arith in rw m (ap shaped (sym (h (in_array (read_by c d)) (in_dict_by c (read_by c d)))))
+    array_in = ap shaped (sym (h (in_array (read_by c d)) (in_dict_by c (read_by c d))))
 
     -- an array whose elements are read
-    pub array_read : (d e : ℕ) → (d ≡ 0 → ⊥) → ok tt e (drop e src) ≡ bare (items (read_by c (d - 1)) turns q (drop q src)) → ok Array e (drop e src) ≡ shaped (read_by c d p (drop p src))
-    array_read d e n g = inside_ok (items (read_by c (d - 1)) turns q (drop q src)) array Array e (drop e src) (λ a. refl) g ∙ array_in d n
+    pub array_read : (e : ℕ) → ok tt e (drop e src) ≡ bare (items (read_by c d) turns q (drop q src)) → ok Array e (drop e src) ≡ shaped (read_by c (suc d) p (drop p src))
+    array_read e g = inside_ok (items (read_by c d) turns q (drop q src)) array Array e (drop e src) (λ a. refl) g ∙ array_in
 
     -- an array with an element that is refused
-    pub array_bad : (d : ℕ) (f : Fault) → (d ≡ 0 → ⊥) → bad f ≡ bare (items (read_by c (d - 1)) turns q (drop q src)) → bad f ≡ shaped (read_by c d p (drop p src))
-    array_bad d f n g = inside_bad (items (read_by c (d - 1)) turns q (drop q src)) array f g ∙ array_in d n
+    pub array_bad : (f : Fault) → bad f ≡ bare (items (read_by c d) turns q (drop q src)) → bad f ≡ shaped (read_by c (suc d) p (drop p src))
+    array_bad f g = inside_bad (items (read_by c d) turns q (drop q src)) array f g ∙ array_in
 
   module _ (h : (A D : ℕ → Reader) → one A D p (drop p src) ≡ D s q (drop q src)) where
-    dict_in : (d : ℕ) → (d ≡ 0 → ⊥) → shaped (then (entries_by c (read_by c (d - 1)) turns no_entries q (drop q src)) (λ es a ys. ok (dict es) a ys)) ≡ shaped (read_by c d p (drop p src))
+    dict_in : shaped (then (entries_by c (read_by c d) turns no_entries q (drop q src)) (λ es a ys. ok (dict es) a ys)) ≡ shaped (read_by c (suc d) p (drop p src))
     unfolding read_by in_dict_by
-    dict_in zero n = absurd (n refl)
-    dict_in (suc d) n = let m : suc d - 1 ≡ d = omega arith in rw m (ap shaped (sym (h (in_array (read_by c d)) (in_dict_by c (read_by c d)))))
+    dict_in = ap shaped (sym (h (in_array (read_by c d)) (in_dict_by c (read_by c d))))
 
     -- a dictionary whose entries are read
-    pub dict_read : (d e : ℕ) → (d ≡ 0 → ⊥) → ok tt e (drop e src) ≡ bare (entries_by c (read_by c (d - 1)) turns no_entries q (drop q src)) → ok Dictionary e (drop e src) ≡ shaped (read_by c d p (drop p src))
-    dict_read d e n g = inside_ok (entries_by c (read_by c (d - 1)) turns no_entries q (drop q src)) dict Dictionary e (drop e src) (λ a. refl) g ∙ dict_in d n
+    pub dict_read : (e : ℕ) → ok tt e (drop e src) ≡ bare (entries_by c (read_by c d) turns no_entries q (drop q src)) → ok Dictionary e (drop e src) ≡ shaped (read_by c (suc d) p (drop p src))
+    dict_read e g = inside_ok (entries_by c (read_by c d) turns no_entries q (drop q src)) dict Dictionary e (drop e src) (λ a. refl) g ∙ dict_in
 
     -- a dictionary with an entry that is refused
-    pub dict_bad : (d : ℕ) (f : Fault) → (d ≡ 0 → ⊥) → bad f ≡ bare (entries_by c (read_by c (d - 1)) turns no_entries q (drop q src)) → bad f ≡ shaped (read_by c d p (drop p src))
-    dict_bad d f n g = inside_bad (entries_by c (read_by c (d - 1)) turns no_entries q (drop q src)) dict f g ∙ dict_in d n
+    pub dict_bad : (f : Fault) → bad f ≡ bare (entries_by c (read_by c d) turns no_entries q (drop q src)) → bad f ≡ shaped (read_by c (suc d) p (drop p src))
+    dict_bad f g = inside_bad (entries_by c (read_by c d) turns no_entries q (drop q src)) dict f g ∙ dict_in

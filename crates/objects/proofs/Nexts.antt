@@ -1,13 +1,15 @@
 -- The entry that stands next in a dictionary, as the code finds it.
-use Rattle.std.proofs.Common.{◌≡◌, ℕ, false, drop, Some, None, sym, ap, ◌∙◌}
+use Rattle.std.proofs.Common.{◌≡◌, ℕ, false, drop, Some, None, Ok, sym, refl, ap, ◌∙◌}
 use Rattle.faults.specs.declared.fault.Fault.{Fault}
 use Rattle.format.specs.Bytes.{Bytes, ok, bad}
 use Rattle.format.specs.Space.{skip}
 use Rattle.format.specs.Objects.{Obj, closes, key, fails}
+use Rattle.objects.specs.declared.ahead.Ahead.{Ahead}
+use Rattle.objects.specs.declared.ahead.Ahead.TheVariants as aheads
 use Rattle.objects.specs.declared.shape.Shape.{Shape}
 use Rattle.objects.specs.Shapes.{shape_of, shaped}
 use Rattle.objects.specs.Extents.{read_by, value_at}
-use Rattle.objects.specs.Steps.{token_in, next_in, EndsAt}
+use Rattle.objects.specs.Steps.{token_in, next_in, EndsAt, Has}
 use Rattle.objects.specs.Nexts.{entry_of, entry_from, entry_in}
 use Rattle.objects.proofs.Turns.{shaped_ok, shaped_bad}
 
@@ -41,3 +43,8 @@ module _ (src : Bytes) (p : ℕ) where
             ∙ ap (λ y. Some (record { key = (token_in src p).from; behind = (token_in src p).to; value = record { start = v; end = r; shape = y } })) (sym i)
             ∙ ap (λ y. Some (record { key = y; behind = (token_in src p).to; value = record { start = v; end = r; shape = o } })) f
             ∙ ap (λ y. Some (record { key = s; behind = y; value = record { start = v; end = r; shape = o } })) t.to)
+
+-- a dictionary that has no key next and can be read closes
+pub has_closes : (src : Bytes) (p : ℕ) (a : Ahead) → ((k : _) (s q : ℕ) → a ≡ aheads.Key k s q → ⊥) → Has src p (Ok a) → next_in src p ≡ closes
+has_closes src p (aheads.Closes q) h told = told.0
+has_closes src p (aheads.Key k s q) h told = absurd (h k s q refl)

@@ -1,18 +1,17 @@
 -- The parts of a stream, at a place of the bytes.
-use Rattle.std.proofs.Common.{◌≡◌, ℕ, suc, ◌+◌, ◌-◌, ◌<◌, ◌≤◌, Bool, true, false, eqb, leb, List, [], ◌∷◌, length, get_or, take, drop, Some, None, Ok, Err, Result, IfOk, codes, sym, refl, ap, ◌∙◌, add-one, arith, length-drop, drop-cons, drop-drop, le-leb}
+use Rattle.std.proofs.Common.{◌≡◌, ℕ, suc, ◌+◌, ◌-◌, ◌<◌, ◌≤◌, true, false, leb, List, [], ◌∷◌, length, get_or, drop, Ok, Err, Result, IfOk, sym, refl, ap, ◌∙◌, add-one, arith, length-drop, drop-cons, drop-drop, le-leb}
 use borrow.Author.Tests.{lt-leb}
 use Rattle.std.specs.Result.{result_unwrap_or}
 use Rattle.std.proofs.lemmas.List.{at_drop_all}
 use Rattle.std.proofs.lemmas.Bool.{eq-eqb, ne_eqb}
 use Rattle.faults.specs.declared.reason.Reason.TheVariants.{BytesEnd, BadFrame}
-use Rattle.format.specs.Bytes.{Bytes, ok, bad, end_of, same, is_regular}
+use Rattle.format.specs.Bytes.{Bytes, ok, bad, end_of}
 use Rattle.format.specs.Failures.{object_fault}
 use Rattle.format.specs.Space.{no_bytes, no_eol, eol_to, after_cr, eol_at}
-use Rattle.format.specs.Frames.{stream_line, maybe_eol, behind, word_ends, end_stream, stream_data}
+use Rattle.format.specs.Frames.{stream_line, maybe_eol, end_stream, stream_data}
 use Rattle.lexer.specs.declared.line.Lack.{Lack}
 use Rattle.lexer.specs.declared.line.Lack.TheVariants.{Short, Misfit}
 use Rattle.lexer.specs.Endings.{line_shown}
-use Rattle.objects.proofs.Cases.{cases}
 
 -- a byte stands at a place, and the others behind it
 at_place : {Y : Type 0} (F : List ℕ → Y) (src : List ℕ) (p : ℕ) → p < length src → F (drop p src) ≡ F (get_or src p 0 ∷ drop (suc p) src)
@@ -95,70 +94,7 @@ module _ (src : Bytes) (p : ℕ) where
   skipped_within (Ok q) h (a, b) = (omega arith, b)
   skipped_within (Err e) h w = (omega arith, h)
 
--- bytes that are too few do not begin with ws
-behind_few : (ws xs : Bytes) → length xs < length ws → behind ws xs ≡ None
-unfolding behind
-behind_few [] xs h = absurd (omega arith)
-behind_few (w ∷ ws) [] h = refl
-behind_few (w ∷ ws) (x ∷ xs) h = let l : length xs < length ws = omega arith in cases (eqb w x) (λ e. rw (e, behind) (behind_few ws xs l)) (λ e. rw (e, behind) refl)
-
--- bytes that begin with ws
-behind_same : (ws xs : Bytes) → same ws (take (length ws) xs) ≡ true → behind ws xs ≡ Some (drop (length ws) xs)
-unfolding behind same
-behind_same [] xs h = refl
-behind_same (w ∷ ws) [] h = absurd (let z : ◌≡◌ {A = ℕ} 0 1 = cc in omega arith)
-behind_same (w ∷ ws) (x ∷ xs) h =
-    cases (eqb w x) (λ e. rw (e, behind) (behind_same ws xs (rw e at h))) (λ e. absurd (let y : ◌≡◌ {A = Bool} false true = rw e at h in let z : ◌≡◌ {A = ℕ} 0 1 = cc in omega arith))
-
--- bytes that do not begin with ws
-behind_other : (ws xs : Bytes) → same ws (take (length ws) xs) ≡ false → behind ws xs ≡ None
-unfolding behind same
-behind_other [] xs h = absurd (let z : ◌≡◌ {A = ℕ} 0 1 = cc in omega arith)
-behind_other (w ∷ ws) [] h = refl
-behind_other (w ∷ ws) (x ∷ xs) h = cases (eqb w x) (λ e. rw (e, behind) (behind_other ws xs (rw e at h))) (λ e. rw (e, behind) refl)
-
 module _ (src : Bytes) (p : ℕ) where
-  -- too few bytes for `endstream`
-  pub end_few : length src - p < 9 → bad (object_fault BadFrame p) ≡ end_stream p (drop p src)
-  unfolding end_stream
-  end_few h =
-      let l : length (drop p src) < length (codes "endstream") = simp length-drop (omega arith) in
-      let e = behind_few (codes "endstream") (drop p src) l in
-      rw (e, end_stream) refl
-
-  -- other bytes
-  pub end_other : same (codes "endstream") (take 9 (drop p src)) ≡ false → bad (object_fault BadFrame p) ≡ end_stream p (drop p src)
-  unfolding end_stream
-  end_other h = let e = behind_other (codes "endstream") (drop p src) h in rw (e, end_stream) refl
-
-  module _ (h : same (codes "endstream") (take 9 (drop p src)) ≡ true) where
-    end_there : behind (codes "endstream") (drop p src) ≡ Some (drop (p + 9) src)
-    end_there = behind_same (codes "endstream") (drop p src) h ∙ ap Some (drop-drop 9 p src)
-
-    -- `endstream` and a regular byte
-    pub end_goes_on : p + 9 < length src → is_regular (get_or src (p + 9) 0) ≡ true → bad (object_fault BadFrame p) ≡ end_stream p (drop p src)
-    unfolding end_stream word_ends
-    end_goes_on l r =
-        let e = end_there in
-        let f : word_ends (drop (p + 9) src) ≡ false = at_place word_ends src (p + 9) l ∙ rw (r, word_ends) refl in
-        rw (e, f, end_stream) refl
-
-    -- `endstream` and no regular byte
-    pub end_stops : p + 9 < length src → is_regular (get_or src (p + 9) 0) ≡ false → ok tt (p + 9) (drop (p + 9) src) ≡ end_stream p (drop p src)
-    unfolding end_stream word_ends
-    end_stops l r =
-        let e = end_there in
-        let f : word_ends (drop (p + 9) src) ≡ true = at_place word_ends src (p + 9) l ∙ rw (r, word_ends) refl in
-        rw (e, f, end_stream) refl
-
-    -- `endstream` as the last bytes
-    pub end_last : length src ≤ p + 9 → ok tt (p + 9) (drop (p + 9) src) ≡ end_stream p (drop p src)
-    unfolding end_stream word_ends
-    end_last l =
-        let e = end_there in
-        let f : word_ends (drop (p + 9) src) ≡ true = at_drop_all word_ends src (p + 9) l in
-        rw (e, f, end_stream) refl
-
   -- too few bytes for the data
   pub data_few : (len : ℕ) → p ≤ length src → length src - p < len → bad (object_fault BytesEnd (length src)) ≡ stream_data len p (drop p src)
   unfolding stream_data end_of

@@ -1,9 +1,17 @@
 -- What the readers of objects answer, as the definitions say it.
-use Rattle.std.specs.Prelude.{◌≡◌, ℕ, ◌<◌, ◌≤◌, Bool, true, false, length, drop, Some, None, Ok, Err, codes, Option, Result}
+use Rattle.std.specs.Prelude.{◌≡◌, ℕ, ◌<◌, ◌≤◌, Bool, true, false, length, drop, pos, Some, None, Ok, Err, codes, Option, Result}
 use Rattle.faults.specs.declared.fault.Fault.{Fault}
+use Rattle.faults.specs.declared.reason.Reason.{Reason}
+use Rattle.faults.specs.declared.reason.Reason.TheVariants.{BytesEnd}
 use Rattle.format.specs.Bytes.{Bytes, Got, ok, bad, same}
+use Rattle.format.specs.Failures.{object_fault}
+use Rattle.format.specs.Space.{skip}
 use Rattle.format.specs.Tokens.{Token, token_at}
-use Rattle.format.specs.Objects.{ref, Reader, Next, closes, key, fails, next, closes_array, one, plain_int, is_word, ref_rest}
+use Rattle.format.specs.Objects.{ref, Reader, Next, closes, key, fails, next, closes_array, one, trial, ref_rest}
+use Rattle.lexer.specs.declared.token.Token as code
+use Rattle.lexer.specs.declared.token.Token.TheVariants as tokens
+use Rattle.lexer.specs.declared.token.Found.{Found}
+use Rattle.lexer.specs.Views.{found_token, token_fault_of, Placed}
 use Rattle.objects.specs.declared.shape.Shape.{Shape}
 use Rattle.objects.specs.declared.shape.Shape.TheVariants as shapes
 use Rattle.objects.specs.declared.shape.Extent.{Extent}
@@ -11,6 +19,8 @@ use Rattle.objects.specs.declared.start.Start.{Start}
 use Rattle.objects.specs.declared.start.Start.TheVariants as starts
 use Rattle.objects.specs.declared.ahead.Ahead.{Ahead}
 use Rattle.objects.specs.declared.ahead.Ahead.TheVariants as aheads
+use Rattle.objects.specs.declared.shape.Value.{Value}
+use Rattle.objects.specs.Extents.{read_by}
 use Rattle.objects.specs.Shapes.{shaped, is_dict}
 use Rattle.lexer.specs.Spelled.{spelled}
 
@@ -37,6 +47,10 @@ token_in src p = token_at p (drop p src)
 abbrev pub next_in : Bytes → ℕ → Next
 next_in src p = next (token_in src p).from (token_in src p).kind
 
+-- the refusal of a token at p that does not fit there: the bytes end, or the reason
+unfoldable pub misplaced : Reason → ℕ → code.Token → Fault
+misplaced r p t = elim t [ tokens.End ↦ object_fault BytesEnd p | _ ↦ object_fault r p ]
+
 -- the token at p ends at q
 pub record EndsAt (src : Bytes) (p q : ℕ) : Type 0 where
   pub to : (token_in src p).to ≡ q
@@ -45,17 +59,28 @@ pub record EndsAt (src : Bytes) (p q : ℕ) : Type 0 where
   pub high : q ≤ length src
 
 -- how an object starts, whatever reads the inside of an array and of a dictionary
-abbrev pub Starts : Bytes → ℕ → Start → Type 0
-Starts src p (starts.Whole e) = ((A D : ℕ → Reader) → shaped (one A D p (drop p src)) ≡ ok e.shape e.end (drop e.end src)) × (p < e.end) × (e.end ≤ length src) × (is_dict e.shape ≡ false)
-Starts src p (starts.Array s q) = ((A D : ℕ → Reader) → one A D p (drop p src) ≡ A s q (drop q src)) × (p < q) × (q ≤ length src)
-Starts src p (starts.Dictionary s q) = ((A D : ℕ → Reader) → one A D p (drop p src) ≡ D s q (drop q src)) × (p < q) × (q ≤ length src)
-Starts src p (starts.Refused f) = (A D : ℕ → Reader) → one A D p (drop p src) ≡ bad f
+abbrev pub Starts : Bytes → ℕ → Result Start Fault → Type 0
+Starts src p (Ok (starts.Whole e)) = ((A D : ℕ → Reader) → shaped (one A D p (drop p src)) ≡ ok e.shape e.end (drop e.end src)) × (p < e.end) × (e.end ≤ length src) × (is_dict e.shape ≡ false)
+Starts src p (Ok (starts.Array s q)) = ((A D : ℕ → Reader) → one A D p (drop p src) ≡ A s q (drop q src)) × (p < q) × (q ≤ length src)
+Starts src p (Ok (starts.Dictionary s q)) = ((A D : ℕ → Reader) → one A D p (drop p src) ≡ D s q (drop q src)) × (p < q) × (q ≤ length src)
+Starts src p (Err f) = (A D : ℕ → Reader) → one A D p (drop p src) ≡ bad f
+
+-- the integer n without a sign, which ends at q, or the reference that it begins
+abbrev pub Counts : Bytes → ℕ → ℕ → Extent → Type 0
+Counts src n q e =
+    ((t : Token) → t.to ≡ q → t.rest ≡ drop q src → shaped (trial true (pos n) t) ≡ ok e.shape e.end (drop e.end src)) × (q ≤ e.end) × (e.end ≤ length src) × (is_dict e.shape ≡ false)
 
 -- what a dictionary has next
-abbrev pub Has : Bytes → ℕ → Ahead → Type 0
-Has src p (aheads.Closes q) = (next_in src p ≡ closes) × EndsAt src p q
-Has src p (aheads.Key k s q) = (next_in src p ≡ key (spelled k.now)) × EndsAt src p q × ((token_in src p).from ≡ s) × (s < q)
-Has src p (aheads.Refused f) = next_in src p ≡ fails f
+abbrev pub Has : Bytes → ℕ → Result Ahead Fault → Type 0
+Has src p (Ok (aheads.Closes q)) = (next_in src p ≡ closes) × EndsAt src p q
+Has src p (Ok (aheads.Key k s q)) = (next_in src p ≡ key (spelled k.now)) × EndsAt src p q × ((token_in src p).from ≡ s) × (s < q)
+Has src p (Err f) = next_in src p ≡ fails f
+
+-- the value behind a key that ends at p, from behind white space on, as read
+abbrev pub Valued : Bool → ℕ → Bytes → ℕ → Result Value Fault → Type 0
+Valued c d src p (Ok v) =
+    (skip false p (drop p src) ≡ (v.start, drop v.start src)) × (ok v.shape v.end (drop v.end src) ≡ shaped (read_by c d v.start (drop v.start src))) × (p ≤ v.start) × (v.start < v.end) × (v.end ≤ length src)
+Valued c d src p (Err f) = (s : ℕ) × (skip false p (drop p src) ≡ (s, drop s src)) × (bad f ≡ shaped (read_by c d s (drop s src)))
 
 -- whether an array closes
 abbrev pub ClosesArray : Bytes → ℕ → Option ℕ → Type 0
@@ -74,15 +99,10 @@ word_shape w =
           ]
     ]
 
--- an integer without a sign stands at p, and q is behind it
-abbrev pub TakesInt : Bytes → ℕ → ℕ → Option ℕ → Type 0
-TakesInt src p q (Some n) = (plain_int (token_in src p).kind ≡ Some n) × EndsAt src p q
-TakesInt src p q None = plain_int (token_in src p).kind ≡ None
-
--- `R` stands at p, and q is behind it
-abbrev pub TakesR : Bytes → ℕ → ℕ → Bool → Type 0
-TakesR src p q true = (is_word (codes "R") (token_in src p).kind ≡ true) × EndsAt src p q
-TakesR src p q false = is_word (codes "R") (token_in src p).kind ≡ false
+-- the token that was looked for from p on, with q behind it; or none that can be read
+abbrev pub Takes : Bytes → ℕ → ℕ → Option code.Token → Type 0
+Takes src p q (Some t) = (f : Found) × (f.token ≡ t) × (f.to ≡ q) × (token_in src p ≡ found_token src f) × Placed src p f
+Takes src p q None = (x : Fault) × (token_fault_of (token_in src p) ≡ Some x)
 
 -- behind the integer n, from the place p: a reference up to q, or nothing
 abbrev pub Tries : Bytes → ℕ → ℕ → ℕ → Option ℕ → Type 0

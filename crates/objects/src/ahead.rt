@@ -3,33 +3,40 @@ ghost use Rattle.std.specs.Prelude.{◌≡◌, ◌≤◌, length};
 ghost use Rattle.objects.specs.Extents.{reached};
 ghost use Rattle.objects.specs.Steps.{Has, ClosesArray};
 
+use crate::tokens::misplaced;
 use faults::fault::Fault;
-use faults::layer::Layer;
 use faults::reason::Reason;
 use lexer::token::{Token, token_at};
 
+// What a dictionary has next, with the place behind it.
 #[derive(Clone, Copy)]
 pub enum Ahead<'a> {
-    // the mark that closes the dictionary, with the place behind it
-    Closes(usize),
-    // a key, by its name's bytes behind the `/`, with the place of its `/` and the place behind it
-    Key(&'a [u8], usize, usize),
-    Refused(Fault),
+    // the mark that closes the dictionary
+    Closes {
+        behind: usize,
+    },
+    // a key, by its name's bytes behind the `/`, with the place of its `/`
+    Key {
+        name: &'a [u8],
+        start: usize,
+        behind: usize,
+    },
 }
 
 // What a dictionary has next.
-pub fn next_in<'a>(src: &'a [u8], from: usize) -> Ahead<'a>
+pub fn next_in<'a>(src: &'a [u8], from: usize) -> Result<Ahead<'a>, Fault>
     requires { from ≤ length src.now }
     ensures { Has src.now from result }
 {
-    match token_at(src, from) {
-        Ok(found) => match found.token {
-            Token::CloseDict => Ahead::Closes(found.to),
-            Token::Name(name) => Ahead::Key(name, found.from, found.to),
-            Token::End => Ahead::Refused(Fault::met(Reason::BytesEnd, Layer::Object, found.from)),
-            _ => Ahead::Refused(Fault::met(Reason::BadToken, Layer::Object, found.from)),
-        },
-        Err(fault) => Ahead::Refused(fault),
+    let found = token_at(src, from)?;
+    match found.token {
+        Token::CloseDict => Ok(Ahead::Closes { behind: found.to }),
+        Token::Name(name) => Ok(Ahead::Key {
+            name,
+            start: found.from,
+            behind: found.to,
+        }),
+        _ => Err(misplaced(found, Reason::BadToken)),
     }
 }
 
@@ -38,12 +45,10 @@ pub fn closing(src: &[u8], from: usize) -> Option<usize>
     requires { from ≤ length src.now }
     ensures { ClosesArray src.now from result }
 {
-    match token_at(src, from) {
-        Ok(found) => match found.token {
-            Token::CloseArray => Some(found.to),
-            _ => None,
-        },
-        Err(_) => None,
+    let found = token_at(src, from).ok()?;
+    match found.token {
+        Token::CloseArray => Some(found.to),
+        _ => None,
     }
 }
 
@@ -51,8 +56,5 @@ pub fn closing(src: &[u8], from: usize) -> Option<usize>
 pub fn is_reached(stop: Option<usize>, at: usize) -> bool
     ensures { result ≡ reached stop at }
 {
-    match stop {
-        Some(place) => place <= at,
-        None => false,
-    }
+    stop.is_some_and(|place| place <= at)
 }

@@ -8,8 +8,9 @@ ghost use Rattle.objects.specs.Steps.{token_in};
 
 use crate::later::later_fault;
 use crate::read::read_dictionary;
+use crate::reading::Reading;
+use crate::tokens::misplaced;
 use faults::fault::Fault;
-use faults::layer::Layer;
 use faults::reason::Reason;
 use lexer::token::{Token, token_at};
 
@@ -29,8 +30,7 @@ fn opening(src: &[u8], from: usize) -> Result<(usize, usize), Fault>
     let found = token_at(src, from)?;
     match found.token {
         Token::OpenDict => Ok((found.from, found.to)),
-        Token::End => Err(Fault::met(Reason::BytesEnd, Layer::Object, found.from)),
-        _ => Err(Fault::met(Reason::BadToken, Layer::Object, found.from)),
+        _ => Err(misplaced(found, Reason::BadToken)),
     }
 }
 
@@ -40,7 +40,7 @@ fn marked(src: &[u8], from: usize) -> Result<Dictionary, Fault>
     ensures { MatchResult result (Opened src.now from) (λ f. trailer_at (token_in src.now from) ≡ bad f) }
 {
     let (mark, inside) = opening(src, from)?;
-    let end = read_dictionary(src, inside, 31, true)?;
+    let end = read_dictionary(src, inside, Reading::checked(31))?;
     Ok(Dictionary { mark, inside, end })
 }
 
@@ -50,8 +50,5 @@ pub fn dictionary_at(base: usize, src: &[u8], from: usize) -> Result<Dictionary,
     requires { (from ≤ length src.now) × (base + length src.now < 2 ^ 64) }
     ensures { MatchResult result (OpenedAt base src.now from) (λ f. trailer_at (token_at (base + from) (drop from src.now)) ≡ bad f) }
 {
-    match marked(src, from) {
-        Ok(found) => Ok(found),
-        Err(fault) => Err(later_fault(base, fault)),
-    }
+    marked(src, from).map_err(|fault| later_fault(base, fault))
 }

@@ -7,10 +7,10 @@ ghost use Rattle.objects.specs.Steps.{placed, token_in};
 
 use crate::body::read_body;
 use crate::later::later_fault;
+use crate::tokens::{is_word, misplaced};
 use faults::fault::Fault;
 use faults::layer::Layer;
 use faults::reason::Reason;
-use lexer::name::same_bytes;
 use lexer::space::skip_space;
 use lexer::token::{Token, token_at};
 
@@ -24,6 +24,21 @@ pub struct Frame {
     pub behind: usize,
 }
 
+impl Frame {
+    // The same frame with every place later by `base`.
+    fn later(self, base: usize) -> Frame
+        requires { (base + self.start < 2 ^ 64) × ((base + self.end < 2 ^ 64) × (base + self.behind < 2 ^ 64)) }
+        ensures { result ≡ moved_frame base self }
+    {
+        Frame {
+            start: base + self.start,
+            end: base + self.end,
+            behind: base + self.behind,
+            ..self
+        }
+    }
+}
+
 // An integer without a sign, which has to stand next, and the place behind it.
 fn the_int(src: &[u8], from: usize) -> Result<(u32, usize), Fault>
     requires { from ≤ length src.now }
@@ -33,8 +48,7 @@ fn the_int(src: &[u8], from: usize) -> Result<(u32, usize), Fault>
     let found = token_at(src, from)?;
     match found.token {
         Token::Unsigned(n) => Ok((n, found.to)),
-        Token::End => Err(Fault::met(Reason::BytesEnd, Layer::Object, found.from)),
-        _ => Err(Fault::met(Reason::BadFrame, Layer::Object, found.from)),
+        _ => Err(misplaced(found, Reason::BadFrame)),
     }
 }
 
@@ -45,15 +59,10 @@ fn the_word(src: &[u8], from: usize, word: &[u8]) -> Result<usize, Fault>
     ensures within { IfOk result (λ q. (from ≤ q) × (q ≤ length src.now)) }
 {
     let found = token_at(src, from)?;
-    match found.token {
-        Token::Word(run) => if same_bytes(word, run) {
-            Ok(found.to)
-        } else {
-            Err(Fault::met(Reason::BadFrame, Layer::Object, found.from))
-        },
-        Token::End => Err(Fault::met(Reason::BytesEnd, Layer::Object, found.from)),
-        _ => Err(Fault::met(Reason::BadFrame, Layer::Object, found.from)),
+    if !is_word(found.token, word) {
+        return Err(misplaced(found, Reason::BadFrame));
     }
+    Ok(found.to)
 }
 
 // The body behind `obj`, and `endobj`.
@@ -97,27 +106,12 @@ pub fn read_frame(src: &[u8]) -> Result<Frame, Fault>
     frame_rest(src, number, next)
 }
 
-// A frame with every place later by `base`.
-fn later_frame(base: usize, frame: Frame) -> Frame
-    requires { (base + frame.start < 2 ^ 64) × ((base + frame.end < 2 ^ 64) × (base + frame.behind < 2 ^ 64)) }
-    ensures { result ≡ moved_frame base frame }
-{
-    Frame {
-        start: base + frame.start,
-        end: base + frame.end,
-        behind: base + frame.behind,
-        ..frame
-    }
-}
-
 // The object whose number stands at the first byte, which stands at the place `base` of the file: places count in the file.
 pub fn read_frame_at(base: usize, src: &[u8]) -> Result<Frame, Fault>
     requires { base + length src.now < 2 ^ 64 }
     ensures is { framed_at base src.now result ≡ frame base src.now }
     ensures within { IfOk result (FrameLies base (length src.now)) }
 {
-    match read_frame(src) {
-        Ok(frame) => Ok(later_frame(base, frame)),
-        Err(fault) => Err(later_fault(base, fault)),
-    }
+    let frame = read_frame(src).map_err(|fault| later_fault(base, fault))?;
+    Ok(frame.later(base))
 }

@@ -4,7 +4,7 @@ ghost use Rattle.objects.specs.Shifts.{later_fault};
 
 use faults::fault::Fault;
 
-// The same fault at a place that is later by `base`.
+// The same fault at a place that is later by `base`: a function, since the type belongs to `faults`.
 pub fn later_fault(base: usize, fault: Fault) -> Fault
     requires { base + fault.place < 2 ^ 64 }
     ensures { result ≡ later_fault base fault }

@@ -9,40 +9,33 @@ ghost use Rattle.objects.specs.Nexts.{entry_in};
 ghost use Rattle.objects.specs.Steps.{seen, placed, bare};
 
 use crate::ahead::{Ahead, next_in};
-use crate::read::{find_value, read_dictionary, read_object};
+use crate::place::check_place;
+use crate::read::{find_value, read_dictionary, read_object, read_value};
+use crate::reading::Reading;
 use crate::shape::{Entry, Extent, Value};
 use faults::fault::Fault;
-use faults::layer::Layer;
-use faults::reason::Reason;
-use lexer::space::skip_space;
 
 // The object at `from`: what it is, and the place behind it.
 pub fn object_at(src: &[u8], from: usize) -> Result<Extent, Fault>
     ensures { seen src.now result ≡ shaped (object from (drop from src.now)) }
 {
-    if from > src.len() {
-        return Err(Fault::met(Reason::BytesEnd, Layer::Object, from));
-    }
-    read_object(src, from, 32, true)
+    check_place(src, from)?;
+    read_object(src, from, Reading::checked(32))
 }
 
 // The entries of a dictionary from `from` on, behind the mark that opens it: the place behind the mark that closes it.
 pub fn entries_end(src: &[u8], from: usize) -> Result<usize, Fault>
     ensures { placed src.now result ≡ bare (entries (object_by 31) turns no_entries from (drop from src.now)) }
 {
-    if from > src.len() {
-        return Err(Fault::met(Reason::BytesEnd, Layer::Object, from));
-    }
-    read_dictionary(src, from, 31, true)
+    check_place(src, from)?;
+    read_dictionary(src, from, Reading::checked(31))
 }
 
 // The value of the key that a name's bytes behind the `/` spell, among the entries from `from` on.
 pub fn value_of(src: &[u8], from: usize, name: &[u8]) -> Option<Value>
     ensures { result ≡ find (read_by false 31) turns (spelled name.now) None from (drop from src.now) }
 {
-    if from > src.len() {
-        return None;
-    }
+    check_place(src, from).ok()?;
     find_value(src, from, None, name, 31)
 }
 
@@ -51,26 +44,16 @@ pub fn value_of(src: &[u8], from: usize, name: &[u8]) -> Option<Value>
 pub fn next_entry(src: &[u8], from: usize) -> Option<Entry>
     ensures { result ≡ entry_in src.now from }
 {
-    if from > src.len() {
-        return None;
-    }
-    match next_in(src, from) {
-        Ahead::Key(_, key, behind) => {
-            let start = skip_space(src, behind);
-            match read_object(src, start, 31, false) {
-                Ok(extent) => Some(Entry {
-                    key,
-                    behind,
-                    value: Value {
-                        start,
-                        end: extent.end,
-                        shape: extent.shape,
-                    },
-                }),
-                Err(_) => None,
-            }
+    check_place(src, from).ok()?;
+    match next_in(src, from).ok()? {
+        Ahead::Key {
+            start: key,
+            behind,
+            ..
+        } => {
+            let value = read_value(src, behind, Reading::unchecked(31)).ok()?;
+            Some(Entry { key, behind, value })
         }
-        Ahead::Closes(_) => None,
-        Ahead::Refused(_) => None,
+        Ahead::Closes { .. } => None,
     }
 }

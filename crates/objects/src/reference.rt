@@ -1,8 +1,8 @@
 // The trial for a reference: behind an integer, a generation and `R`, or nothing.
 ghost use Rattle.std.specs.Prelude.{◌≡◌, ◌≤◌, length, if◌then◌else◌};
-ghost use Rattle.objects.specs.Steps.{TakesInt, TakesR, Tries};
+ghost use Rattle.objects.specs.Steps.{Takes, Tries};
 
-use lexer::name::same_bytes;
+use crate::tokens::is_word;
 use lexer::reader::Lexer;
 use lexer::token::{Token, token_at};
 
@@ -28,40 +28,15 @@ impl Drop for Trial<'_> {
     }
 }
 
-// The next token if it is an integer without a sign; the place moves behind any token.
-fn take_int(src: &[u8], place: &mut usize) -> Option<u32>
+// The next token, if it can be read, and the place moves behind it.
+fn take<'a>(src: &'a [u8], place: &mut usize) -> Option<Token<'a>>
     requires { place.old ≤ length src.now }
-    ensures is { TakesInt src.now place.old place.new result }
+    ensures is { Takes src.now place.old place.new result }
     ensures within { place.new ≤ length src.now }
 {
-    match token_at(src, *place) {
-        Ok(found) => {
-            *place = found.to;
-            match found.token {
-                Token::Unsigned(n) => Some(n),
-                _ => None,
-            }
-        }
-        Err(_) => None,
-    }
-}
-
-// Whether the next token is `R`; the place moves behind any token.
-fn take_r(src: &[u8], place: &mut usize) -> bool
-    requires { place.old ≤ length src.now }
-    ensures is { TakesR src.now place.old place.new result }
-    ensures within { place.new ≤ length src.now }
-{
-    match token_at(src, *place) {
-        Ok(found) => {
-            *place = found.to;
-            match found.token {
-                Token::Word(word) => same_bytes(b"R", word),
-                _ => false,
-            }
-        }
-        Err(_) => false,
-    }
+    let found = token_at(src, *place).ok()?;
+    *place = found.to;
+    Some(found.token)
 }
 
 // Behind the integer `number`: a generation and `R`, and the lexer's place moves behind them; or nothing, and the place stays.
@@ -76,16 +51,17 @@ pub fn try_reference(lexer: &mut Lexer<'_>, number: u32) -> Option<u16>
         back,
         found: false,
     };
-    let generation = take_int(src, trial.place)?;
+    let Token::Unsigned(second) = take(src, trial.place)? else {
+        return None;
+    };
     if number < 1 {
         return None;
     }
-    if generation > 65535 {
-        return None;
-    }
-    if !take_r(src, trial.place) {
+    let generation = u16::try_from(second).ok()?;
+    let mark = take(src, trial.place)?;
+    if !is_word(mark, b"R") {
         return None;
     }
     trial.found = true;
-    Some(generation as u16)
+    Some(generation)
 }

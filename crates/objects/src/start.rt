@@ -1,25 +1,25 @@
 // How an object starts.
 ghost use Rattle.std.specs.Prelude.{◌≡◌, ◌≤◌, length, pos};
-ghost use Rattle.objects.specs.Steps.{Starts, word_shape};
+ghost use Rattle.objects.specs.Steps.{Starts, Counts, word_shape};
 
 use crate::reference::try_reference;
 use crate::shape::{Extent, Shape};
+use crate::tokens::misplaced;
 use faults::fault::Fault;
-use faults::layer::Layer;
 use faults::reason::Reason;
 use lexer::name::same_bytes;
 use lexer::reader::Lexer;
 use lexer::token::{Token, token_at};
 
+// How an object starts, with the place behind what was read of it.
 #[derive(Clone, Copy)]
 pub enum Start {
     // an object with nothing inside
     Whole(Extent),
     // the place of the mark that opens an array, and the place behind it
-    Array(usize, usize),
+    Array { mark: usize, inside: usize },
     // the place of the mark that opens a dictionary, and the place behind it
-    Dictionary(usize, usize),
-    Refused(Fault),
+    Dictionary { mark: usize, inside: usize },
 }
 
 // `true`, `false` and `null`.
@@ -37,85 +37,51 @@ fn word_shape(word: &[u8]) -> Option<Shape>
     }
 }
 
-fn whole(n: u32) -> i64
-    ensures { result ≡ pos n }
+// An integer without a sign, or the reference that it begins.
+fn whole_number(src: &[u8], number: u32, end: usize) -> Extent
+    requires { end ≤ length src.now }
+    ensures { Counts src.now number end result }
 {
-    n as i64
+    let mut lexer = Lexer::at(src, end);
+    let shape = match try_reference(&mut lexer, number) {
+        Some(generation) => Shape::Reference { number, generation },
+        None => Shape::Integer(i64::from(number)),
+    };
+    Extent {
+        shape,
+        end: lexer.place,
+    }
 }
 
-fn signed(z: i32) -> i64
-    ensures { result ≡ z }
-{
-    z as i64
-}
-
-pub fn start_of(src: &[u8], from: usize) -> Start
+// How the object starts that stands next.
+pub fn start_of(src: &[u8], from: usize) -> Result<Start, Fault>
     requires { from ≤ length src.now }
     ensures { Starts src.now from result }
 {
-    match token_at(src, from) {
-        Err(fault) => Start::Refused(fault),
-        Ok(found) => {
-            let end = found.to;
-            match found.token {
-                Token::Unsigned(n) => {
-                    let mut lexer = Lexer::at(src, end);
-                    match try_reference(&mut lexer, n) {
-                        Some(generation) => Start::Whole(Extent {
-                            shape: Shape::Reference {
-                                number: n,
-                                generation,
-                            },
-                            end: lexer.place,
-                        }),
-                        None => Start::Whole(Extent {
-                            shape: Shape::Integer(whole(n)),
-                            end: lexer.place,
-                        }),
-                    }
-                }
-                Token::Signed(z) => Start::Whole(Extent {
-                    shape: Shape::Integer(signed(z)),
-                    end,
-                }),
-                Token::Real(_) => Start::Whole(Extent {
-                    shape: Shape::Real,
-                    end,
-                }),
-                Token::Name(_) => Start::Whole(Extent {
-                    shape: Shape::Name,
-                    end,
-                }),
-                Token::Text(_) => Start::Whole(Extent {
-                    shape: Shape::Text,
-                    end,
-                }),
-                Token::Hex(_) => Start::Whole(Extent {
-                    shape: Shape::Hex,
-                    end,
-                }),
-                Token::Word(word) => match word_shape(word) {
-                    Some(shape) => Start::Whole(Extent { shape, end }),
-                    None => Start::Refused(Fault::met(Reason::BadToken, Layer::Object, found.from)),
-                },
-                Token::OpenArray => Start::Array(found.from, end),
-                Token::OpenDict => Start::Dictionary(found.from, end),
-                Token::CloseArray => Start::Refused(Fault::met(
-                    Reason::BadToken,
-                    Layer::Object,
-                    found.from,
-                )),
-                Token::CloseDict => Start::Refused(Fault::met(
-                    Reason::BadToken,
-                    Layer::Object,
-                    found.from,
-                )),
-                Token::End => Start::Refused(Fault::met(
-                    Reason::BytesEnd,
-                    Layer::Object,
-                    found.from,
-                )),
-            }
-        }
-    }
+    let found = token_at(src, from)?;
+    let shape = match found.token {
+        Token::Unsigned(n) => return Ok(Start::Whole(whole_number(src, n, found.to))),
+        Token::OpenArray => return Ok(Start::Array {
+            mark: found.from,
+            inside: found.to,
+        }),
+        Token::OpenDict => return Ok(Start::Dictionary {
+            mark: found.from,
+            inside: found.to,
+        }),
+        Token::Signed(z) => Shape::Integer(i64::from(z)),
+        Token::Real(_) => Shape::Real,
+        Token::Name(_) => Shape::Name,
+        Token::Text(_) => Shape::Text,
+        Token::Hex(_) => Shape::Hex,
+        Token::Word(word) => word_shape(word).ok_or(misplaced(found, Reason::BadToken))?,
+        Token::CloseArray | Token::CloseDict | Token::End => return Err(misplaced(
+            found,
+            Reason::BadToken,
+        )),
+    };
+    Ok(Start::Whole(Extent {
+        shape,
+        end: found.to,
+    }))
 }

@@ -9,7 +9,6 @@ use faults::layer::Layer;
 use faults::reason::Reason;
 use lexer::bytes::is_regular;
 use lexer::line::line_end;
-use lexer::name::same_bytes;
 
 // The end of line behind `stream`, LF or CR LF: the place behind it. A CR alone ends a line elsewhere and none here, so the bytes are asked themselves.
 pub fn stream_line(src: &[u8], from: usize) -> Result<usize, Fault>
@@ -51,19 +50,12 @@ fn end_stream(src: &[u8], from: usize) -> Result<usize, Fault>
     ensures is { placed src.now result ≡ end_stream from (drop from src.now) }
     ensures within { IfOk result (λ q. (from < q) × (q ≤ length src.now)) }
 {
-    if src.len() - from < 9 {
-        return Err(Fault::met(Reason::BadFrame, Layer::Object, from));
+    let broken = Fault::met(Reason::BadFrame, Layer::Object, from);
+    let rest = src[from..].strip_prefix(b"endstream").ok_or(broken)?;
+    if rest.first().is_some_and(|b| is_regular(*b)) {
+        return Err(broken);
     }
-    let end = from + 9;
-    if !same_bytes(b"endstream", &src[from..end]) {
-        return Err(Fault::met(Reason::BadFrame, Layer::Object, from));
-    }
-    if end < src.len() {
-        if is_regular(src[end]) {
-            return Err(Fault::met(Reason::BadFrame, Layer::Object, from));
-        }
-    }
-    Ok(end)
+    Ok(from + 9)
 }
 
 // The data of a stream, an optional end of line and `endstream`: the place behind them.

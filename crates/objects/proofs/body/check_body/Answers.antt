@@ -1,5 +1,5 @@
-use Rattle.std.proofs.Common.{◌≡◌, Some, Err, sym, ap, ◌∙◌}
-use Rattle.std.proofs.lemmas.Result.{err_from_is_err_and}
+use Rattle.std.proofs.Common.{Some, sym, ap, ◌∙◌}
+use Rattle.objects.proofs.Cases.{handed}
 use Rattle.objects.proofs.Bodies.{put_loose, put_bad, put_more, put_all}
 use Rattle.objects.proofs.body.check_body.Goals as goal
 
@@ -14,6 +14,5 @@ returns c = put_all _ (sym c.if-starts_loose.ensures) _ c.in_ok-end.ensures.is c
 
 pub returns-in_err-end : goal.returns-in_err-end
 returns-in_err-end c =
-    let p = err_from_is_err_and c.from_residual.result c.from_residual.ensures.1 in
-    let z : c.from_residual.result ≡ Err c.in_err-end.field-0.0 = cc in
+    let z = handed c.from_residual.result c.in_err-end.field-0.0 c.from_residual.ensures.1 in
     rw z (put_bad _ (sym c.if-starts_loose.ensures) _ c.in_err-end.ensures.is)

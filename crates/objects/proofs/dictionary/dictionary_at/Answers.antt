@@ -1,12 +1,10 @@
-use Rattle.std.proofs.Common.{arith}
-use Rattle.objects.proofs.Dictionaries.{opened_at, refused_at, refused_within}
+use Rattle.std.proofs.Common.{rules}
+use Rattle.objects.proofs.Cases.{Moved}
+use Rattle.objects.proofs.Dictionaries.{refused_within, dictionary_moved}
 use Rattle.objects.proofs.dictionary.dictionary_at.Goals as goal
 
-pub later_fault-requires : goal.later_fault-requires
-later_fault-requires c = let h = refused_within _ _ _ c.requires.0 c.in-Err.ensures in omega (arith, c.requires)
+pub map_err-requires : goal.map_err-requires
+map_err-requires c = search (rules, refused_within)
 
-pub returns-in-Ok : goal.returns-in-Ok
-returns-in-Ok c = opened_at _ _ _ _ c.in-Ok.ensures
-
-pub returns-in-Err : goal.returns-in-Err
-returns-in-Err c = refused_at _ _ _ _ _ c.in-Err.ensures c.later_fault.ensures
+pub returns : goal.returns
+returns c = let moved : Moved c.args.base c.marked.result c.map_err.result = search rules in dictionary_moved _ _ _ _ _ c.marked.ensures moved

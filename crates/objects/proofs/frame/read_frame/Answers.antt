@@ -1,11 +1,11 @@
-use Rattle.std.proofs.Common.{◌≡◌, Err, ap, ◌∙◌}
-use Rattle.std.proofs.lemmas.Result.{err_from_is_err_and}
+use Rattle.std.proofs.Common.{ap, ◌∙◌}
 use Rattle.format.specs.Bytes.{bad}
-use Rattle.objects.proofs.Frames.{frame_loose, frame_bad, frame_there, frame_refused}
+use Rattle.objects.proofs.Cases.{handed}
+use Rattle.objects.proofs.Frames.{frame_loose, frame_bad, frame_there}
 use Rattle.objects.proofs.frame.read_frame.Goals as goal
 
-pub returns-then-skip_space-ne0 : goal.returns-then-skip_space-ne0
-returns-then-skip_space-ne0 c = record { is = ap bad c.met.ensures ∙ frame_loose _ _ c.skip_space.ensures.is c.if-skip_space-ne0.true; within = tt }
+pub returns-then-skip_space-ne0-clause-is : goal.returns-then-skip_space-ne0-clause-is
+returns-then-skip_space-ne0-clause-is c = ap bad c.met.ensures ∙ frame_loose _ _ c.skip_space.ensures.is c.if-skip_space-ne0.true
 
 pub returns : goal.returns
 returns c = record {
@@ -13,9 +13,7 @@ returns c = record {
   within = c.frame_rest.ensures.within;
 }
 
-pub returns-in_err-number : goal.returns-in_err-number
-returns-in_err-number c =
-    let p = err_from_is_err_and c.from_residual.result c.from_residual.ensures.1 in
-    let z : c.from_residual.result ≡ Err c.in_err-number.field-0.0 = cc in
-    let r = frame_refused _ _ _ _ _ z (frame_bad _ _ c.skip_space.ensures.is c.if-skip_space-ne0.false _ c.in_err-number.ensures.is) in
-    record { is = r.0; within = r.1 }
+pub returns-in_err-number-clause-is : goal.returns-in_err-number-clause-is
+returns-in_err-number-clause-is c =
+    let z = handed c.from_residual.result c.in_err-number.field-0.0 c.from_residual.ensures.1 in
+    rw z (frame_bad _ _ c.skip_space.ensures.is c.if-skip_space-ne0.false _ c.in_err-number.ensures.is)

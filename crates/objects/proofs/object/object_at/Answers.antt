@@ -1,10 +1,15 @@
 use Rattle.std.proofs.Common.{ap, ◌∙◌, arith}
 use Rattle.format.specs.Bytes.{bad}
+use Rattle.objects.proofs.Cases.{handed}
 use Rattle.objects.proofs.Ends.{object_past, object_read}
 use Rattle.objects.proofs.object.object_at.Goals as goal
 
-pub returns-then-from-src : goal.returns-then-from-src
-returns-then-from-src c = ap bad c.met.ensures ∙ object_past _ _ (omega arith)
+pub returns-in_err-check_place : goal.returns-in_err-check_place
+returns-in_err-check_place c =
+    let z = handed c.from_residual.result c.in_err-check_place.field-0.0 c.from_residual.ensures.1 in
+    let past = c.in_err-check_place.ensures in
+    let l = past.0 in
+    rw z (ap bad past.1 ∙ object_past _ _ (omega arith))
 
 pub returns : goal.returns
-returns c = c.read_object.ensures.is ∙ object_read _ _
+returns c = let e = rw c.checked.ensures at c.read_object.ensures.is in e ∙ object_read _ _

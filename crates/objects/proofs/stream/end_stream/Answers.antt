@@ -1,31 +1,31 @@
-use Rattle.std.proofs.Common.{◌≡◌, ◌+◌, ◌-◌, true, false, take, drop, codes, sym, ap, ◌∙◌, arith}
-use Rattle.format.specs.Bytes.{bad, same}
-use Rattle.objects.proofs.Streams.{end_few, end_other, end_goes_on, end_stops, end_last}
+use Rattle.std.proofs.Common.{◌≡◌, false, MatchOption, sym, ap, ◌∙◌, rules}
+use Rattle.format.specs.Bytes.{bad, is_regular}
+use Rattle.objects.proofs.Cases.{handed, ok_or_ok, ok_or_err}
+use Rattle.objects.proofs.StreamEnds.{begins, end_other, end_goes_on, end_stops, first_regular}
 use Rattle.objects.proofs.stream.end_stream.Goals as goal
 
-pub returns-then-src-from-lt9 : goal.returns-then-src-from-lt9
-returns-then-src-from-lt9 c = record { is = ap bad c.met.ensures ∙ end_few _ _ c.if-src-from-lt9.true; within = tt }
+pub returns-in_err-rest-clause-is : goal.returns-in_err-rest-clause-is
+returns-in_err-rest-clause-is c =
+    let z = handed c.from_residual.result c.in_err-rest.field-0.0 c.from_residual.ensures.1 in
+    let none = ok_or_err _ _ _ c.in_err-rest.ensures.value in
+    let is = begins c.args.src.now c.args.from c.strip_prefix.result c.strip_prefix.ensures.cases in
+    let other = rw (sym none.0) at is in
+    rw z (ap bad (none.1 ∙ c.met-broken.ensures) ∙ end_other _ _ other)
 
-pub returns-then-not-same_bytes : goal.returns-then-not-same_bytes
-returns-then-not-same_bytes c =
-    let nine : c.args.from + 9 - c.args.from ≡ 9 = omega arith in
-    let other : same (codes "endstream") (take 9 (drop c.args.from c.args.src.now)) ≡ false = rw nine at (sym c.if-not-same_bytes.ensures) in
-    record { is = ap bad c.met-then-not-same_bytes.ensures ∙ end_other _ _ other; within = tt }
+pub returns-then-is_some_and-clause-is : goal.returns-then-is_some_and-clause-is
+returns-then-is_some_and-clause-is c =
+    let some = ok_or_ok _ _ _ c.in_ok-rest.ensures.value in
+    let is = begins c.args.src.now c.args.from c.strip_prefix.result c.strip_prefix.ensures.cases in
+    let there = rw (sym some) at is in
+    let cases : MatchOption c.first.result (c.is_some_and.result ≡ false) (λ x. c.is_some_and.result ≡ is_regular x.now) = search rules in
+    let first = first_regular _ _ _ c.first.ensures.value cases in
+    ap bad c.met-broken.ensures ∙ end_goes_on _ _ _ there (rw c.if-is_some_and.true at first)
 
-pub returns-then-is_regular : goal.returns-then-is_regular
-returns-then-is_regular c =
-    let nine : c.args.from + 9 - c.args.from ≡ 9 = omega arith in
-    let there : same (codes "endstream") (take 9 (drop c.args.from c.args.src.now)) ≡ true = rw nine at (sym c.if-not-same_bytes.ensures) in
-    record { is = ap bad c.met-then-is_regular.ensures ∙ end_goes_on _ _ there c.if-end-src.true (sym c.if-is_regular.ensures); within = tt }
-
-pub returns-else-is_regular : goal.returns-else-is_regular
-returns-else-is_regular c =
-    let nine : c.args.from + 9 - c.args.from ≡ 9 = omega arith in
-    let there : same (codes "endstream") (take 9 (drop c.args.from c.args.src.now)) ≡ true = rw nine at (sym c.if-not-same_bytes.ensures) in
-    record { is = end_stops _ _ there c.if-end-src.true (sym c.if-is_regular.ensures); within = (omega arith, omega arith) }
-
-pub returns-else-end-src : goal.returns-else-end-src
-returns-else-end-src c =
-    let nine : c.args.from + 9 - c.args.from ≡ 9 = omega arith in
-    let there : same (codes "endstream") (take 9 (drop c.args.from c.args.src.now)) ≡ true = rw nine at (sym c.if-not-same_bytes.ensures) in
-    record { is = end_last _ _ there c.if-end-src.false; within = (omega arith, omega arith) }
+pub returns-clause-is : goal.returns-clause-is
+returns-clause-is c =
+    let some = ok_or_ok _ _ _ c.in_ok-rest.ensures.value in
+    let is = begins c.args.src.now c.args.from c.strip_prefix.result c.strip_prefix.ensures.cases in
+    let there = rw (sym some) at is in
+    let cases : MatchOption c.first.result (c.is_some_and.result ≡ false) (λ x. c.is_some_and.result ≡ is_regular x.now) = search rules in
+    let first = first_regular _ _ _ c.first.ensures.value cases in
+    end_stops _ _ _ there (rw c.if-is_some_and.false at first)

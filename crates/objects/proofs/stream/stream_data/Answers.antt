@@ -4,8 +4,8 @@ use Rattle.objects.proofs.Cases.{further}
 use Rattle.objects.proofs.Streams.{data_few, data_there}
 use Rattle.objects.proofs.stream.stream_data.Goals as goal
 
-pub returns-then-len-src : goal.returns-then-len-src
-returns-then-len-src c = record { is = ap bad c.met.ensures ∙ data_few _ _ _ c.requires c.if-len-src.true; within = tt }
+pub returns-then-len-src-clause-is : goal.returns-then-len-src-clause-is
+returns-then-len-src-clause-is c = ap bad c.met.ensures ∙ data_few _ _ _ c.requires c.if-len-src.true
 
 pub returns : goal.returns
 returns c =

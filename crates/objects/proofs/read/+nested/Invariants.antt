@@ -5,23 +5,27 @@ use Rattle.objects.specs.Extents.{read_by, entries_by, find}
 use Rattle.lexer.specs.Spelled.{spelled}
 use Rattle.objects.specs.Steps.{bare}
 use Rattle.objects.proofs.Turns.{Elements, Entered, Walking}
-use Rattle.objects.proofs.read.+find_value_read_array_read_dictionary_read_object.Given as goal
+use Rattle.objects.proofs.read.+nested.Given as goal
 
 abbrev pub decreases-find_value : goal.decreases-find_value
-decreases-find_value l = 2 * l.depth + 1
+decreases-find_value l = 3 * l.depth + 2
 
 abbrev pub decreases-read_array : goal.decreases-read_array
-decreases-read_array l = cond l.check 1024 0 + (2 * l.depth + 1)
+decreases-read_array l = cond l.reading.check 1024 0 + (3 * l.reading.depth + 2)
 
 abbrev pub decreases-read_dictionary : goal.decreases-read_dictionary
-decreases-read_dictionary l = cond l.check 1024 0 + (2 * l.depth + 1)
+decreases-read_dictionary l = cond l.reading.check 1024 0 + (3 * l.reading.depth + 2)
+
+abbrev pub decreases-read_value : goal.decreases-read_value
+decreases-read_value l = cond l.reading.check 1024 0 + (3 * l.reading.depth + 1)
 
 abbrev pub decreases-read_object : goal.decreases-read_object
-decreases-read_object l = cond l.check 1024 0 + 2 * l.depth
+decreases-read_object l = cond l.reading.check 1024 0 + 3 * l.reading.depth
 
 abbrev pub invariant-read_array-elements : goal.invariant-read_array-elements
 invariant-read_array-elements l =
-    (l.from ≤ l.at) × (l.at ≤ length l.src) × Elements (read_by l.check l.depth) l.src l.at (bare (items (read_by l.check l.depth) turns l.from (drop l.from l.src)))
+    (l.from ≤ l.at) × (l.at ≤ length l.src)
+    × Elements (read_by l.reading.check l.reading.depth) l.src l.at (bare (items (read_by l.reading.check l.reading.depth) turns l.from (drop l.from l.src)))
 
 abbrev pub decreases-read_array-elements : goal.decreases-read_array-elements
 decreases-read_array-elements l = length l.src - l.at
@@ -29,7 +33,7 @@ decreases-read_array-elements l = length l.src - l.at
 abbrev pub invariant-read_dictionary-entries : goal.invariant-read_dictionary-entries
 invariant-read_dictionary-entries l =
     (l.from ≤ l.at) × (l.at ≤ length l.src)
-    × Entered l.check l.depth l.src l.from l.at (bare (entries_by l.check (read_by l.check l.depth) turns no_entries l.from (drop l.from l.src)))
+    × Entered l.reading.check l.reading.depth l.src l.from l.at (bare (entries_by l.reading.check (read_by l.reading.check l.reading.depth) turns no_entries l.from (drop l.from l.src)))
 
 abbrev pub decreases-read_dictionary-entries : goal.decreases-read_dictionary-entries
 decreases-read_dictionary-entries l = length l.src - l.at
