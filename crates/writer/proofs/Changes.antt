@@ -1,10 +1,12 @@
 -- The changes kept, and the update that they are.
-use Rattle.std.proofs.Common.{◌≡◌, ℕ, zero, suc, ◌+◌, ◌-◌, ◌<◌, ◌≤◌, Bool, true, false, cond, eqb, ltb, leb, List, [], ◌∷◌, ◌++◌, map, length, get_or, take, drop, IfSome, Some, None, sym, refl, ap, ◌∙◌, arith, length-drop}
+use Rattle.std.proofs.Common.{◌≡◌, ℕ, zero, suc, ◌+◌, ◌-◌, ◌<◌, ◌≤◌, Bool, true, false, cond, eqb, ltb, leb, List, [], ◌∷◌, ◌++◌, map, length, take, drop, IfSome, Some, None, sym, refl, ap, ◌∙◌, arith, length-drop}
 use lib.ListN.{length-map}
-use Rattle.std.specs.Option.{option_map}
-use Rattle.std.specs.List.{insert}
-use Rattle.std.proofs.lemmas.List.{drop_more, drop_at, drop-append-le, take-append-le, take_all}
-use Rattle.std.proofs.lemmas.Bool.{ltb-true, leb-true, leb-false, eq-eqb, ne_eqb, lt-ltb, le-ltb, le-leb, lt-leb, and_parts, and_from, cond-true}
+use Rattle.std.specs.Option.{option_map, unwrap_or}
+use Rattle.std.specs.List.{insert, position, position_or_len, count_by}
+use Rattle.std.specs.List.{find as first}
+use Rattle.std.proofs.lemmas.List.Recursion.{is_count_by, is_position_or_len}
+use Rattle.std.proofs.lemmas.List.{drop_at, drop-append-le, take-append-le, take_all}
+use Rattle.std.proofs.lemmas.Bool.{ltb-true, ltb-false, leb-true, leb-false, lt-ltb, le-ltb, le-leb, lt-leb, and_parts, and_from, cond-true}
 use Rattle.entries.specs.Cells.{part}
 use Rattle.format.specs.Book.{has_room, most_changes, most_body_bytes}
 use Rattle.format.specs.Bytes.{Bytes}
@@ -37,56 +39,57 @@ found_kept n k (c ∷ cs) h =
     (λ e. rw (e, find) p.0)
     (λ e. rw (e, find) (found_kept n k cs p.1))
 
--- the first of what is left is the number's
-pub change_here : (n i : ℕ) (cs : List Change) (d : Change) → i < length cs → n ≡ (get_or cs i d).number → find n (map pair_of (drop i cs)) ≡ Some (get_or cs i d).content
+-- it is that of the first change of the number
+pub found_first : (n : ℕ) (cs : List Change) → option_map (λ c. c.content) (first (λ c. eqb n c.number) cs) ≡ find n (map pair_of cs)
 unfolding find
-change_here n i cs d l h =
-    let e : eqb n (get_or cs i d).number ≡ true = eq-eqb n (get_or cs i d).number h in
-    ap (λ xs. find n (map pair_of xs)) (drop_more cs i d l) ∙ rw (e, find) refl
+found_first n [] = refl
+found_first n (c ∷ cs) =
+    cases (eqb n c.number)
+    (λ e. rw (e, find) refl)
+    (λ e. rw (e, find) (found_first n cs))
 
--- it is another's
-pub change_past : (n i : ℕ) (cs : List Change) (d : Change) → i < length cs → (n ≡ (get_or cs i d).number → ⊥) → find n (map pair_of (drop (i + 1) cs)) ≡ find n (map pair_of (drop i cs))
-unfolding find
-change_past n i cs d l h =
-    let e : eqb n (get_or cs i d).number ≡ false = ne_eqb n (get_or cs i d).number h in
-    sym (ap (λ xs. find n (map pair_of xs)) (drop_more cs i d l) ∙ rw (e, find) refl)
+-- the place is one of the list
+pub place_within : (n : ℕ) (cs : List Change) → place_for n cs ≤ length cs
+place_within n [] = omega arith
+place_within n (c ∷ cs) =
+    cases (ltb n c.number)
+    (λ e. rw (e, place_for) (omega arith))
+    (λ e. rw (e, place_for) (let h = place_within n cs in omega arith))
 
--- the first of what is left has a greater number
-pub place_here : (n i : ℕ) (cs : List Change) (d : Change) → i < length cs → n < (get_or cs i d).number → place_for n (drop i cs) ≡ 0
-place_here n i cs d l h =
-    let e : ltb n (get_or cs i d).number ≡ true = lt-ltb n (get_or cs i d).number h in
-    ap (place_for n) (drop_more cs i d l) ∙ rw (e, place_for) refl
+counted : (n : ℕ) → suc n ≡ 1 + n
+counted n = omega arith
 
-pub place_past : (n i : ℕ) (cs : List Change) (d : Change) → i < length cs → (get_or cs i d).number ≤ n → place_for n (drop i cs) ≡ suc (place_for n (drop (i + 1) cs))
-place_past n i cs d l h =
-    let e : ltb n (get_or cs i d).number ≡ false = le-ltb n (get_or cs i d).number h in
-    ap (place_for n) (drop_more cs i d l) ∙ rw (e, place_for) refl
+-- the first place whose number is greater, or the place behind all
+place_counted : (n : ℕ) (cs : List Change) → place_for n cs ≡ position_or_len (λ c. ltb n c.number) cs
+place_counted n =
+    is_position_or_len (place_for n) (λ c. ltb n c.number) refl
+    (λ c cs.
+    cases (ltb n c.number)
+    (λ e. rw (e, place_for) refl)
+    (λ e. rw (e, place_for) (counted _)))
 
-pub place_end : (n i : ℕ) (cs : List Change) → length cs ≤ i → place_for n (drop i cs) ≡ 0
-place_end n zero [] h = refl
-place_end n (suc i) [] h = refl
-place_end n zero (c ∷ cs) h = absurd (omega arith)
-place_end n (suc i) (c ∷ cs) h = place_end n i cs (omega arith)
+pub place_first : (n : ℕ) (cs : List Change) → unwrap_or (position (λ c. ltb n c.number) cs) (length cs) ≡ place_for n cs
+place_first n cs =
+    let k = place_counted n cs in
+    let w = place_within n cs in
+    cases (ltb (position_or_len (λ c. ltb n c.number) cs) (length cs))
+    (λ e. rw e (sym k))
+    (λ e.
+    let l = ltb-false (position_or_len (λ c. ltb n c.number) cs) (length cs) e in
+    let q : length cs ≡ place_for n cs = omega (arith, k, l, w) in
+    rw e q)
 
--- how many of what is left are new
-pub new_here : (size i : ℕ) (pool : Bytes) (cs : List Change) (d : Change) → i < length cs → size ≤ (get_or cs i d).number → new_numbers size (update_in pool (drop i cs)) ≡ suc (new_numbers size (update_in pool (drop (i + 1) cs)))
+-- how many changes are of new numbers
+pub new_counted : (size : ℕ) (pool : Bytes) (cs : List Change) → count_by (λ c. leb size c.number) cs ≡ new_numbers size (update_in pool cs)
 unfolding new_numbers
-new_here size i pool cs d l h =
-    let e : leb size (get_or cs i d).number ≡ true = le-leb size (get_or cs i d).number h in
-    ap (λ xs. new_numbers size (update_in pool xs)) (drop_more cs i d l) ∙ rw (e, new_numbers) refl
-
-pub new_past : (size i : ℕ) (pool : Bytes) (cs : List Change) (d : Change) → i < length cs → (get_or cs i d).number < size → new_numbers size (update_in pool (drop i cs)) ≡ new_numbers size (update_in pool (drop (i + 1) cs))
-unfolding new_numbers
-new_past size i pool cs d l h =
-    let e : leb size (get_or cs i d).number ≡ false = lt-leb size (get_or cs i d).number h in
-    ap (λ xs. new_numbers size (update_in pool xs)) (drop_more cs i d l) ∙ rw (e, new_numbers) refl
-
-pub new_end : (size i : ℕ) (pool : Bytes) (cs : List Change) → length cs ≤ i → new_numbers size (update_in pool (drop i cs)) ≡ 0
-unfolding new_numbers
-new_end size zero pool [] h = refl
-new_end size (suc i) pool [] h = refl
-new_end size zero pool (c ∷ cs) h = absurd (omega arith)
-new_end size (suc i) pool (c ∷ cs) h = new_end size i pool cs (omega arith)
+new_counted size pool cs =
+    sym
+    (is_count_by (λ ds. new_numbers size (update_in pool ds)) (λ c. leb size c.number) refl
+    (λ c ds.
+    cases (leb size c.number)
+    (λ e. rw (e, new_numbers) (counted _))
+    (λ e. rw (e, new_numbers) refl))
+    cs)
 
 -- no changes
 pub none_within : (k : ℕ) (cs : List Change) → cs ≡ [] → all_within k cs ≡ true
@@ -118,14 +121,6 @@ placed n k pool (c ∷ cs) h =
     cases (ltb n c.number)
     (λ e. rw (e, with_change, place_for) refl)
     (λ e. rw (e, f, with_change, place_for) (ap (λ rs. row_in pool c ∷ rs) (placed n k pool cs p.1)))
-
--- the place is one of the list
-pub place_within : (n : ℕ) (cs : List Change) → place_for n cs ≤ length cs
-place_within n [] = omega arith
-place_within n (c ∷ cs) =
-    cases (ltb n c.number)
-    (λ e. rw (e, place_for) (omega arith))
-    (λ e. rw (e, place_for) (let h = place_within n cs in omega arith))
 
 -- where more bytes are kept, bodies still lie among them
 stays : (k m : ℕ) (c : Content) → within k c ≡ true → k ≤ m → within m c ≡ true

@@ -2,8 +2,9 @@
 use Rattle.std.proofs.Common.{◌≡◌, ℕ, ◌+◌, ◌-◌, ◌*◌, ◌≤◌, Bool, true, false, [], ◌++◌, length, take, drop, Some, None, codes, sym, refl, ap, ◌∙◌, subst, append_assoc, append-nil, add-one, arith}
 use Rattle.std.proofs.lemmas.List.Edits.{length-between}
 use Rattle.entries.specs.Cells.{part}
-use Rattle.format.specs.Bytes.{Bytes, same}
-use Rattle.format.specs.Objects.{Obj, Entries, no_entries, more_entries}
+use Rattle.format.specs.Bytes.{Bytes, Got, ok, bad, same}
+use Rattle.format.specs.Objects.{Obj, Entries, no_entries, more_entries, entries, object_by}
+use Rattle.format.specs.Strings.{turns}
 use Rattle.format.specs.Writing.{is_rewritten, copied}
 use Rattle.lexer.specs.Spelled.{spelled}
 use Rattle.locality.proofs.Cases.{cases}
@@ -15,7 +16,7 @@ use Rattle.objects.specs.Nexts.{entry_in}
 use Rattle.writer.specs.declared.draft.Draft.{Draft}
 use Rattle.writer.specs.Drafts.{Adds, written, limit_of}
 use Rattle.writer.specs.Pieces.{pair_bytes}
-use Rattle.writer.specs.Trailers.{ReadAs, Lies, copy_of}
+use Rattle.writer.specs.Trailers.{ReadAs, Readable, is_got, is_read, Lies, copy_of}
 use Rattle.writer.proofs.Lengths.{pair_length}
 use Rattle.writer.proofs.Pieces.{copied_parts}
 use Rattle.writer.proofs.Written.{adds_from}
@@ -23,6 +24,19 @@ use Rattle.writer.proofs.Written.{adds_from}
 -- the bytes read, entry by entry
 pub listed : (src : Bytes) (p : ℕ) (es : Entries) → ReadAs src p es → EntriesFrom src p es
 listed src p es (q, ys, e) = lists src p es q ys e
+
+-- what is read, by its test
+got : {A : Type 0} (g : Got A) → is_got g ≡ true → (x : A) × ((q : ℕ) × (ys : Bytes) × (g ≡ ok x q ys))
+got (ok x q ys) h = (x, (q, ys, refl))
+got (bad f) h = clash (cc)
+
+pub read_some : (src : Bytes) (p : ℕ) → is_read src p ≡ true → Readable src p
+unfolding is_read
+read_some src p h = got (entries (object_by 31) turns no_entries p (drop p src)) h
+
+pub reads : (src : Bytes) (p : ℕ) → Readable src p → is_read src p ≡ true
+unfolding is_read
+reads src p (es, (q, ys, e)) = ap is_got e
 
 -- the first of some entries, and those behind it
 pub record First (src : Bytes) (p : ℕ) (es : Entries) (e : Entry) : Type 0 where

@@ -1,7 +1,9 @@
 -- The entries that an update lists, one by one and run by run.
-use Rattle.std.proofs.Common.{◌≡◌, ℕ, zero, suc, ◌+◌, ◌<◌, ◌≤◌, true, false, eqb, List, [], ◌∷◌, map, length, get_or, drop, Some, None, Option, sym, refl, ap, ◌∙◌, add-one, arith}
+use Rattle.std.proofs.Common.{◌≡◌, ℕ, zero, suc, ◌+◌, ◌<◌, ◌≤◌, true, false, eqb, List, [], ◌∷◌, map, length, get_or, drop, Some, None, Option, sym, refl, ap, ◌∙◌, add-one, add-zero, ltb, arith}
+use Rattle.std.specs.List.{position, position_or_len}
+use Rattle.std.specs.Option.{option_map, unwrap_or}
 use Rattle.std.proofs.lemmas.List.{drop_more, drop_all, drop-drop}
-use Rattle.std.proofs.lemmas.Bool.{eq-eqb, ne_eqb}
+use Rattle.std.proofs.lemmas.Bool.{eq-eqb, ne_eqb, ltb-true, ltb-false, lt-ltb, le-ltb}
 use Rattle.format.specs.Lines.{Slot}
 use Rattle.format.specs.Writing.{next_free, entry_for, entries_for, free_slot, used_slot, Run, ahead, runs}
 use Rattle.locality.proofs.Cases.{cases}
@@ -29,15 +31,30 @@ free_later n (Vacant g l) ps e = clash (cc)
 free_later n (Wrote g p) ps e = rw (add-one n) refl
 free_later n (Freed g) ps e = clash (cc)
 
-pub next_here : (plan : List Planned) (n : ℕ) (d : Planned) → n < length plan → is_free (get_or plan n d) ≡ true → next_in plan n ≡ n
-next_here plan n d h e = ap (λ ps. next_free n (map cell_of ps)) (drop_more plan n d h) ∙ free_first n (get_or plan n d) (drop (n + 1) plan) e
-
-pub next_past : (plan : List Planned) (n : ℕ) (d : Planned) → n < length plan → is_free (get_or plan n d) ≡ false → next_in plan n ≡ next_in plan (n + 1)
-next_past plan n d h e = ap (λ ps. next_free n (map cell_of ps)) (drop_more plan n d h) ∙ free_later n (get_or plan n d) (drop (n + 1) plan) e
-
-pub next_none : (plan : List Planned) (n : ℕ) → length plan ≤ n → next_in plan n ≡ 0
+-- the first free number, by its place among those from a number on
+pub next_first : (n : ℕ) (ps : List Planned) → unwrap_or (option_map (λ k. n + k) (position is_free ps)) 0 ≡ next_free n (map cell_of ps)
 unfolding next_free
-next_none plan n h = ap (λ ps. next_free n (map cell_of ps)) (drop_all n plan h)
+next_first n [] = refl
+next_first n (x ∷ ps) =
+    let h = next_first (n + 1) ps in
+    cases (is_free x)
+    (λ e.
+    let z : ltb 0 (suc (length ps)) ≡ true = lt-ltb 0 (suc (length ps)) (omega arith) in
+    rw (e, z) (add-zero n ∙ sym (free_first n x ps e)))
+    (λ e.
+    let l = free_later n x ps e in
+    cases (ltb (position_or_len is_free ps) (length ps))
+    (λ f.
+    let q = ltb-true (position_or_len is_free ps) (length ps) f in
+    let z : ltb (1 + position_or_len is_free ps) (suc (length ps)) ≡ true = lt-ltb (1 + position_or_len is_free ps) (suc (length ps)) (omega arith) in
+    let g : n + 1 + position_or_len is_free ps ≡ next_free (n + 1) (map cell_of ps) = rw f at h in
+    let m : n + (1 + position_or_len is_free ps) ≡ next_free n (map cell_of (x ∷ ps)) = omega (arith, g, l) in
+    rw (e, z) m)
+    (λ f.
+    let q = ltb-false (position_or_len is_free ps) (length ps) f in
+    let z : ltb (1 + position_or_len is_free ps) (suc (length ps)) ≡ false = le-ltb (1 + position_or_len is_free ps) (suc (length ps)) (omega arith) in
+    let g : 0 ≡ next_free (n + 1) (map cell_of ps) = rw f at h in
+    rw (e, z) (g ∙ sym l)))
 
 -- the entry of a number and those behind it
 pub listed_here : (plan : List Planned) (n : ℕ) (d : Planned) → n < length plan →

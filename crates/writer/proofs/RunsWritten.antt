@@ -9,10 +9,16 @@ use Rattle.writer.specs.declared.plan.Planned.{Planned}
 use Rattle.writer.specs.Drafts.{Adds, written, limit_of}
 use Rattle.writer.specs.Listing.{listed_at, front, RunsTo}
 use Rattle.writer.specs.Planned.{cell_of}
+use Rattle.writer.specs.Sizes.{most_numbers}
 use Rattle.writer.proofs.Lengths.{run_at_most}
 use Rattle.writer.proofs.Listing.{run_at, run_none, run_over}
 use Rattle.writer.proofs.Pieces.{runs_parts}
 use Rattle.writer.proofs.Written.{adds_from}
+
+-- a run of no entries
+pub no_entries : (es : List Slot) → length es ≡ 0 → es ≡ []
+no_entries [] h = refl
+no_entries (e ∷ es) h = absurd (omega arith)
 
 -- all entries of a run are written
 pub entries_done : (d₀ d : Draft) (es fs : List Slot) → es ≡ [] → written d ++ slots_on es [] ≡ written d₀ ++ slots_on fs [] → limit_of d ≡ limit_of d₀ → Adds d₀ (slots_on fs []) d
@@ -49,7 +55,7 @@ front_within plan n =
     omega arith
 
 -- a run is written
-pub run_written : (plan : List Planned) (n r : ℕ) (s : Slot) (ss : List (Option Slot)) (d e : Draft) → listed_at plan n ≡ Some s ∷ ss → n < 1032 → length plan ≤ 1032 →
+pub run_written : (plan : List Planned) (n r : ℕ) (s : Slot) (ss : List (Option Slot)) (d e : Draft) → listed_at plan n ≡ Some s ∷ ss → n < most_numbers → length plan ≤ most_numbers →
     r ≡ n + length (front (listed_at plan n)) → Adds d (run_on (n, front (listed_at plan n)) []) e → RunsTo plan n r d e
 run_written plan n r s ss d e l small few h a =
     let fs = front (listed_at plan n) in

@@ -1,5 +1,5 @@
 -- What a table says of a number.
-use Rattle.std.proofs.Common.{◌≡◌, ℕ, zero, suc, ◌+◌, ◌<◌, ◌≤◌, Bool, true, false, not, leb, List, [], ◌∷◌, map, length, get_or, is_some, Some, None, Option, sym, refl, ap, ◌∙◌, arith}
+use Rattle.std.proofs.Common.{◌≡◌, ℕ, zero, suc, ◌+◌, ◌<◌, ◌≤◌, Bool, true, false, not, leb, List, [], ◌∷◌, map, is_some, slice_get, Some, None, Option, sym, refl, ap, ◌∙◌, arith}
 use Rattle.std.specs.Option.{option_map}
 use Rattle.std.proofs.lemmas.Bool.{lt-leb, le-leb}
 use Rattle.entries.specs.declared.cell.Cell.{Cell}
@@ -11,17 +11,12 @@ use Rattle.format.specs.Updates.{Update, new_numbers}
 use Rattle.format.specs.Writing.{new_size}
 use Rattle.writer.specs.Tables.{TableOf}
 
-pub nth_some : {A : Type 0} (n : ℕ) (xs : List A) (d : A) → n < length xs → nth n xs ≡ Some (get_or xs n d)
+-- what stands at a place, in the words of a slice
+pub nth_got : {A : Type 0} (n : ℕ) (xs : List A) → slice_get xs n ≡ nth n xs
 unfolding nth
-nth_some n [] d h = absurd (omega arith)
-nth_some zero (x ∷ xs) d h = refl
-nth_some (suc n) (x ∷ xs) d h = nth_some n xs d (omega arith)
-
-pub nth_none : {A : Type 0} (n : ℕ) (xs : List A) → length xs ≤ n → nth n xs ≡ None
-unfolding nth
-nth_none n [] h = refl
-nth_none zero (x ∷ xs) h = absurd (omega arith)
-nth_none (suc n) (x ∷ xs) h = nth_none n xs (omega arith)
+nth_got n [] = refl
+nth_got zero (x ∷ xs) = refl
+nth_got (suc n) (x ∷ xs) = nth_got n xs
 
 pub nth_map : {A B : Type 0} (f : A → B) (n : ℕ) (xs : List A) → nth n (map f xs) ≡ option_map f (nth n xs)
 unfolding nth

@@ -9,6 +9,7 @@ use Rattle.writer.specs.declared.held.Held.{Held}
 use Rattle.writer.specs.Changes.{row_in}
 use Rattle.writer.specs.Helds.{update_of, pool_of}
 use Rattle.writer.specs.Plans.{room_for}
+use Rattle.writer.specs.Sizes.{most_object_bytes}
 
 unfoldable pub weight : ℕ → Update → ℕ
 weight n [] = 0
@@ -54,7 +55,7 @@ weight_most n (r ∷ rs) =
     (λ e. rw (e, weight) (omega arith))
 
 -- what an open update needs at most
-pub weight_bound : (n : ℕ) (h : Held) → weight n (update_of h) ≤ 17472
+pub weight_bound : (n : ℕ) (h : Held) → weight n (update_of h) ≤ most_object_bytes
 weight_bound n h =
     let m = weight_most n (update_of h) in
     let l = length-map h.changes.items (row_in (pool_of h)) in

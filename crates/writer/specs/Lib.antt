@@ -1,3 +1,4 @@
+pub mod Sizes
 pub mod Drafts
 pub mod Pieces
 pub mod Parts

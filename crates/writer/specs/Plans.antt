@@ -1,5 +1,6 @@
 -- What a plan holds, and how it grows with the objects written.
 use Rattle.std.specs.Prelude.{◌≡◌, ℕ, ◌+◌, ◌≤◌, List, [], ◌∷◌, ◌++◌, map, length, Some, None, vec_items, vec_len, Option}
+use Rattle.std.specs.Coded.{×_prop, Unit-prop, le_prop}
 use Rattle.entries.specs.declared.cell.Cell.{Cell}
 use Rattle.entries.specs.declared.cell.Cell.TheVariants.{Used, Free}
 use Rattle.entries.specs.Cells.{states_in}
@@ -28,6 +29,10 @@ generation_in (Free g n) = g
 abbrev pub GenerationsFit : List Cell → Type 0
 GenerationsFit [] = Unit {0}
 GenerationsFit (c ∷ cs) = (generation_in c ≤ 65535) × GenerationsFit cs
+
+pub GenerationsFit-prop : (cs : List Cell) → IsProp (GenerationsFit cs)
+GenerationsFit-prop [] = Unit-prop
+GenerationsFit-prop (c ∷ cs) = ×_prop le_prop (GenerationsFit-prop cs)
 
 -- the bytes that a change of the number n adds, where its generation is g
 abbrev pub change_bytes : ℕ → ℕ → Option Change → Bytes

@@ -1,6 +1,6 @@
 -- The entries of the previous trailer, copied.
-use Rattle.std.specs.Prelude.{◌≡◌, ℕ, ◌+◌, ◌<◌, ◌≤◌, true, false, [], length, drop}
-use Rattle.format.specs.Bytes.{Bytes, ok}
+use Rattle.std.specs.Prelude.{◌≡◌, ℕ, ◌+◌, ◌<◌, ◌≤◌, Bool, true, false, [], length, drop}
+use Rattle.format.specs.Bytes.{Bytes, Got, ok, bad}
 use Rattle.format.specs.Strings.{turns}
 use Rattle.format.specs.Objects.{Entries, no_entries, entries, object_by}
 use Rattle.format.specs.Writing.{is_rewritten}
@@ -16,6 +16,14 @@ ReadAs src inside es = (q : ℕ) × (ys : Bytes) × (entries (object_by 31) turn
 -- they are read as some entries
 abbrev pub Readable : Bytes → ℕ → Type 0
 Readable src inside = (es : Entries) × ReadAs src inside es
+
+-- the same, as a test
+abbrev pub is_got : {A : Type 0} → Got A → Bool
+is_got (ok x q ys) = true
+is_got (bad f) = false
+
+unfoldable pub is_read : Bytes → ℕ → Bool
+is_read src inside = is_got (entries (object_by 31) turns no_entries inside (drop inside src))
 
 -- an entry lies within the bytes, its key before its value
 pub record Lies (src : Bytes) (e : Entry) : Type 0 where

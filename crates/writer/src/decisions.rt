@@ -32,10 +32,7 @@ fn may_put(cells: &[Cell], held: &Held, n: usize) -> bool
 fn body_answer(n: usize, bytes: &[u8]) -> Result<(), Fault>
     ensures { result ≡ body_answer n (body_fault bytes.now) }
 {
-    match check_body(bytes) {
-        Ok(()) => Ok(()),
-        Err(fault) => Err(fault.of_object(n)),
-    }
+    check_body(bytes).map_err(|fault| fault.of_object(n))
 }
 
 // Whether a body may be put under a number, given the table of the newest revision and the changes held.

@@ -7,6 +7,7 @@ pub mod draft;
 pub mod entry;
 pub mod held;
 mod listed;
+pub mod newest;
 mod numbers;
 pub mod parts;
 mod plan;

@@ -1,5 +1,6 @@
 // The entries that an update lists.
-ghost use Rattle.std.specs.Prelude.{◌≡◌, ◌+◌, ◌<◌, ◌≤◌, ◌∷◌, map, length, drop};
+ghost use Rattle.std.specs.Prelude.{◌≡◌, ◌+◌, ◌<◌, ◌≤◌, ◌∷◌, map, length, drop, IfSome};
+ghost use Rattle.std.specs.List.{position};
 ghost use Rattle.std.specs.Option.{option_map};
 ghost use Rattle.entries.specs.Rows.{slot_of};
 ghost use Rattle.format.specs.Writing.{entry_for, next_free};
@@ -13,18 +14,15 @@ use entries::entry::Entry;
 fn is_free(one: Planned) -> bool
     ensures { result ≡ is_free one }
 {
-    match one {
-        Planned::Kept => false,
-        Planned::Vacant {
-            generation: _,
-            next: _,
-        } => true,
-        Planned::Wrote {
-            generation: _,
-            offset: _,
-        } => false,
-        Planned::Freed { generation: _ } => true,
-    }
+    matches!(one, Planned::Vacant { .. } | Planned::Freed { .. })
+}
+
+// The place of the first number that is free, if one is.
+fn first_free(plan: &[Planned]) -> Option<usize>
+    ensures is { result ≡ position is_free plan.now }
+    ensures within { IfSome result (λ place. place < length plan.now) }
+{
+    plan.iter().position(|one| is_free(*one))
 }
 
 // The first free number from `from` on, or 0.
@@ -32,14 +30,10 @@ fn next_free(plan: &[Planned], from: usize) -> usize
     requires { from ≤ length plan.now }
     ensures { result ≡ next_free from (map cell_of (drop from plan.now)) }
 {
-    let mut n = from;
-    while n < plan.len() {
-        if is_free(plan[n]) {
-            return n;
-        }
-        n += 1;
+    match first_free(&plan[from..]) {
+        Some(place) => from + place,
+        None => 0,
     }
-    0
 }
 
 // The entry of a number that stays free, if it is listed: 0 is, and each whose next free number changes.
@@ -82,13 +76,10 @@ pub(crate) fn run_end(plan: &[Planned], from: usize) -> usize
     ensures is { result ≡ from + length (front (listed_at plan.now from)) }
     ensures within { result ≤ length plan.now }
 {
-    let mut n = from;
-    while n < plan.len() {
-        match entry_of(plan, n) {
-            Some(_) => {}
-            None => return n,
+    for n in from..plan.len() {
+        if entry_of(plan, n).is_none() {
+            return n;
         }
-        n += 1;
     }
-    n
+    plan.len()
 }

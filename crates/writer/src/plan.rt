@@ -1,5 +1,6 @@
 // What an update makes of each number, in memory that was taken once.
 ghost use Rattle.std.specs.Prelude.{◌≤◌, vec_len, vec_capacity};
+ghost use Rattle.writer.specs.Sizes.{most_numbers};
 
 mod rows;
 
@@ -23,6 +24,6 @@ pub enum Planned {
 #[derive(Drop)]
 pub struct Plan {
     rows: Vec<Planned>,
-    ghost within: { vec_len rows ≤ 1032 },
-    ghost places: { 1032 ≤ vec_capacity rows },
+    ghost within: { vec_len rows ≤ most_numbers },
+    ghost places: { most_numbers ≤ vec_capacity rows },
 }

@@ -3,34 +3,30 @@ ghost use Rattle.std.specs.Prelude.{◌≡◌, ◌+◌, ◌*◌, ◌<◌, ◌≤
 ghost use Rattle.format.specs.Writing.{run_on, runs, runs_on, slots_on};
 ghost use Rattle.writer.specs.Drafts.{Adds, Room, count};
 ghost use Rattle.writer.specs.Listing.{RunsTo, front, listed_at};
+ghost use Rattle.writer.specs.Plans.{rows_of};
+ghost use Rattle.writer.specs.Sizes.{most_numbers};
 
 use crate::draft::Draft;
 use crate::listed::{entry_of, run_end};
-use crate::plan::Planned;
+use crate::plan::{Plan, Planned};
 
-// The entries of an unbroken run from a number on: the number behind it.
-fn write_entries(draft: &mut Draft, plan: &[Planned], first: usize) -> usize
-    requires within { first ≤ length plan.now }
+// The entries of an unbroken run from a number up to the number behind it, by number, since an entry depends on the numbers behind its own.
+fn write_entries(draft: &mut Draft, plan: &[Planned], first: usize, end: usize)
+    requires end { end ≡ first + length (front (listed_at plan.now first)) }
+    requires within { end ≤ length plan.now }
     requires room { Room draft.old (20 * length (front (listed_at plan.now first))) }
-    ensures adds { Adds draft.old (slots_on (front (listed_at plan.now first)) []) draft.new }
-    ensures is { result ≡ first + length (front (listed_at plan.now first)) }
-    ensures within { result ≤ length plan.now }
+    ensures { Adds draft.old (slots_on (front (listed_at plan.now first)) []) draft.new }
 {
-    let mut n = first;
-    while n < plan.len() {
-        match entry_of(plan, n) {
-            Some(entry) => draft.entry(entry),
-            None => return n,
+    for n in first..end {
+        if let Some(entry) = entry_of(plan, n) {
+            draft.entry(entry);
         }
-        n += 1;
     }
-    n
 }
 
 // An unbroken run from a number on: the number behind it.
 fn write_run(draft: &mut Draft, plan: &[Planned], first: usize) -> usize
-    requires number { first < 1032 }
-    requires size { length plan.now ≤ 1032 }
+    requires size { length plan.now ≤ most_numbers }
     requires within { first ≤ length plan.now }
     requires room { Room draft.old (22 + 20 * length (front (listed_at plan.now first))) }
     ensures adds { Adds draft.old (run_on (first, front (listed_at plan.now first)) []) draft.new }
@@ -39,12 +35,13 @@ fn write_run(draft: &mut Draft, plan: &[Planned], first: usize) -> usize
 {
     let end = run_end(plan, first);
     draft.run_line(first as u32, (end - first) as u64);
-    write_entries(draft, plan, first)
+    write_entries(draft, plan, first, end);
+    end
 }
 
 // A number that is not listed, or the run that it begins: the number behind.
 fn write_from(draft: &mut Draft, plan: &[Planned], n: usize) -> usize
-    requires size { length plan.now ≤ 1032 }
+    requires size { length plan.now ≤ most_numbers }
     requires within { n < length plan.now }
     requires room { Room draft.old (22 + 20 * length (front (listed_at plan.now n))) }
     ensures runs { RunsTo plan.now n result draft.old draft.new }
@@ -56,15 +53,15 @@ fn write_from(draft: &mut Draft, plan: &[Planned], n: usize) -> usize
     }
 }
 
-// All runs of a plan.
-pub(crate) fn write_runs(draft: &mut Draft, plan: &[Planned])
-    requires size { length plan.now ≤ 1032 }
-    requires room { Room draft.old (42 * 1032) }
-    ensures adds { Adds draft.old (runs_on (runs 0 (listed_at plan.now 0)) []) draft.new }
-    ensures grown { count draft.new ≤ count draft.old + 42 * 1032 }
+// All runs of a plan. Each step goes as far as a run reaches, and so no range of numbers tells the steps.
+pub(crate) fn write_runs(draft: &mut Draft, plan: &Plan)
+    requires { Room draft.old (42 * most_numbers) }
+    ensures adds { Adds draft.old (runs_on (runs 0 (listed_at (rows_of plan.now) 0)) []) draft.new }
+    ensures grown { count draft.new ≤ count draft.old + 42 * most_numbers }
 {
+    let numbers = plan.as_slice();
     let mut n = 0;
-    while n < plan.len() {
-        n = write_from(draft, plan, n);
+    while n < numbers.len() {
+        n = write_from(draft, numbers, n);
     }
 }

@@ -12,29 +12,16 @@ use entries::cell::Cell;
 pub(crate) fn cell_at(cells: &[Cell], n: usize) -> Option<Cell>
     ensures { result ≡ nth n cells.now }
 {
-    if n < cells.len() {
-        Some(cells[n])
-    } else {
-        None
-    }
+    cells.get(n).copied()
 }
 
-// Whether a number is in use.
+// Whether a number is in use. Arm by arm, since the proof of a default arm does not learn which cells in `Some` are left for it.
 pub(crate) fn is_used(cell: Option<Cell>) -> bool
     ensures { (file : Bytes) → result ≡ is_used (option_map (state_in file) cell) }
 {
     match cell {
-        Some(found) => match found {
-            Cell::Used {
-                generation: _,
-                start: _,
-                end: _,
-            } => true,
-            Cell::Free {
-                generation: _,
-                next: _,
-            } => false,
-        },
+        Some(Cell::Used { .. }) => true,
+        Some(Cell::Free { .. }) => false,
         None => false,
     }
 }
@@ -44,17 +31,8 @@ pub(crate) fn is_worn_out(cell: Option<Cell>) -> bool
     ensures { (file : Bytes) → result ≡ is_worn_out (option_map (state_in file) cell) }
 {
     match cell {
-        Some(found) => match found {
-            Cell::Used {
-                generation: _,
-                start: _,
-                end: _,
-            } => false,
-            Cell::Free {
-                generation,
-                next: _,
-            } => generation == 65535,
-        },
+        Some(Cell::Used { .. }) => false,
+        Some(Cell::Free { generation, .. }) => generation == 65535,
         None => false,
     }
 }

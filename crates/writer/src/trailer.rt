@@ -15,10 +15,7 @@ use objects::shape::Entry;
 fn is_rewritten(name: &[u8]) -> bool
     ensures { result ≡ is_rewritten (spelled name.now) }
 {
-    if spells(name, b"Size") {
-        return true;
-    }
-    spells(name, b"Prev")
+    spells(name, b"Size") || spells(name, b"Prev")
 }
 
 // An entry, unless it is written anew.
@@ -44,13 +41,8 @@ pub(crate) fn copy_entries(draft: &mut Draft, src: &[u8], inside: usize)
     ensures grown { count draft.new ≤ count draft.old + 2 * length src.now }
 {
     let mut at = inside;
-    'entries: loop {
-        match next_entry(src, at) {
-            Some(one) => {
-                copy_entry(draft, src, one);
-                at = one.value.end;
-            }
-            None => break 'entries,
-        }
+    'entries: while let Some(one) = next_entry(src, at) {
+        copy_entry(draft, src, one);
+        at = one.value.end;
     }
 }

@@ -1,6 +1,7 @@
 // Writing an update, in memory that was taken once.
 ghost use Rattle.std.specs.Prelude.{◌≤◌};
 ghost use Rattle.writer.specs.Drafts.{limit_of};
+ghost use Rattle.writer.specs.Sizes.{most_bytes};
 
 use crate::draft::Draft;
 use crate::plan::Plan;
@@ -16,5 +17,5 @@ pub const MOST_BYTES: usize = 131072;
 pub struct Writer {
     draft: Draft,
     plan: Plan,
-    ghost room: { 131072 ≤ limit_of draft },
+    ghost room: { most_bytes ≤ limit_of draft },
 }

@@ -13,6 +13,7 @@ use faults::reason::Reason;
 use records::revision::read_revision;
 use records::trailer::read_trailer;
 use stores::store::Store;
+use writer::newest::Newest;
 
 // The most revisions, the highest Size, the most bytes of a file and of a section.
 const MOST_REVISIONS: usize = 64;
@@ -56,14 +57,14 @@ impl<S: Store> Book<S> {
             Err(_) => unreachable(),
         };
         let cells = cells_of(self.memory.tables.cells(), row);
-        self.memory.writer.write(
-            &self.memory.held,
+        let newest = Newest {
             cells,
-            self.store.len(),
-            row.offset,
-            self.memory.scratch.seen(),
+            len: self.store.len(),
+            offset: row.offset,
+            window: self.memory.scratch.seen(),
             inside,
-        )
+        };
+        self.memory.writer.write(&self.memory.held, &newest)
     }
 
     // Whether the update that was laid down may be committed: every check, and nothing is changed.

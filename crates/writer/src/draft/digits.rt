@@ -1,4 +1,4 @@
-// Numbers in decimal.
+// Numbers in decimal, digit by digit: `write!` may fail for want of memory, and an append to a draft never does.
 ghost use Rattle.std.specs.Prelude.{◌≡◌, ◌+◌, ◌%◌, ◌^◌, ◌<◌, [], ◌++◌, length};
 ghost use Rattle.format.specs.Writing.{decimal, padded};
 ghost use Rattle.writer.specs.Drafts.{Adds, Room};
@@ -9,7 +9,7 @@ use super::Draft;
 fn last_digit(n: u64) -> u8
     ensures { result ≡ 48 + n % 10 }
 {
-    48 + (n % 10) as u8
+    b'0' + (n % 10) as u8
 }
 
 impl Draft {
@@ -20,7 +20,7 @@ impl Draft {
         ensures { Adds self.old (decimal n) self.new }
     {
         if n < 10 {
-            self.byte(48 + n as u8);
+            self.byte(b'0' + n as u8);
         } else {
             self.decimal(n / 10);
             self.byte(last_digit(n));

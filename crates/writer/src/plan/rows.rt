@@ -1,6 +1,7 @@
 // Making a plan, asking it, and adding to it.
 ghost use Rattle.std.specs.Prelude.{◌≡◌, ◌+◌, ◌<◌, [], ◌∷◌, ◌++◌, length, IfOk};
 ghost use Rattle.writer.specs.Plans.{plan_count, rows_of};
+ghost use Rattle.writer.specs.Sizes.{most_numbers};
 
 use super::{MOST_NUMBERS, Plan, Planned};
 use std::alloc::{AllocError, Global};
@@ -22,9 +23,16 @@ impl Plan {
         self.rows.clear();
     }
 
+    // How many numbers there are.
+    pub fn len(&self) -> usize
+        ensures { result ≡ plan_count self.now }
+    {
+        self.rows.len()
+    }
+
     // The next number.
     pub fn push(&mut self, one: Planned)
-        requires { plan_count self.old < 1032 }
+        requires { plan_count self.old < most_numbers }
         ensures rows { rows_of self.new ≡ rows_of self.old ++ one ∷ [] }
         ensures count { plan_count self.new ≡ plan_count self.old + 1 }
     {

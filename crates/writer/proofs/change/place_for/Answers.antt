@@ -1,21 +1,10 @@
-use Rattle.std.proofs.Common.{arith}
-use Rattle.writer.proofs.Changes.{place_here, place_past, place_end}
+use Rattle.std.proofs.Common.{length, ap, ◌∙◌, arith}
+use Rattle.std.specs.Option.{unwrap_or}
+use Rattle.writer.proofs.Changes.{place_first, place_within}
 use Rattle.writer.proofs.change.place_for.Goals as goal
-
-pub returns-then-n-change : goal.returns-then-n-change
-returns-then-n-change c =
-    let h = place_here c.args.n c.loop-place.place c.args.changes.now _ c.loop-place-test.true c.if-n-change.true in
-    let i = c.loop-place.invariant in
-    record { is = omega arith; within = omega arith }
-
-pub loop-place-preserved : goal.loop-place-preserved
-loop-place-preserved c =
-    let h = place_past c.args.n c.loop-place.place c.args.changes.now _ c.loop-place-test.true c.if-n-change.false in
-    let i = c.loop-place.invariant in
-    omega arith
 
 pub returns : goal.returns
 returns c =
-    let h = place_end c.args.n c.loop-place.place c.args.changes.now c.loop-place-test.false in
-    let i = c.loop-place.invariant in
-    record { is = omega arith; within = omega arith }
+    let cs = c.args.changes.now in
+    let e = c.unwrap_or.ensures ∙ ap (λ o. unwrap_or o (length cs)) c.first_greater.ensures.is ∙ place_first c.args.n cs in
+    record { is = e; within = omega (arith, e, place_within c.args.n cs) }

@@ -1,12 +1,20 @@
-use Rattle.std.proofs.Common.{sym, ◌∙◌, arith}
-use Rattle.writer.proofs.Listing.{next_here, next_past, next_none}
+use Rattle.std.proofs.Common.{◌≡◌, ℕ, ◌+◌, ◌-◌, List, length, take, drop, Option, ap, ◌∙◌, arith, length-drop}
+use Rattle.std.specs.List.{position}
+use Rattle.std.specs.Option.{option_map, unwrap_or}
+use Rattle.std.proofs.lemmas.List.{take_all}
+use Rattle.writer.specs.declared.plan.Planned.{Planned}
+use Rattle.writer.specs.Listing.{is_free}
+use Rattle.writer.proofs.Listing.{next_in, next_first}
 use Rattle.writer.proofs.listed.next_free.Goals as goal
 
-pub returns-then-is_free : goal.returns-then-is_free
-returns-then-is_free c = sym (next_here c.args.plan.now c.loop-n.n _ c.loop-n-test.true (sym c.if-is_free.ensures)) ∙ c.loop-n.invariant.1
+-- a place among the numbers from n on, as a number
+number_at : (n : ℕ) (plan : List Planned) (o : Option ℕ) → o ≡ position is_free (take (length plan - n) (drop n plan)) → unwrap_or (option_map (λ k. n + k) o) 0 ≡ next_in plan n
+number_at n plan o e =
+    let t = take_all (length plan - n) (drop n plan) (omega (arith, length-drop n plan)) in
+    ap (λ p. unwrap_or (option_map (λ k. n + k) p) 0) (e ∙ ap (position is_free) t) ∙ next_first n (drop n plan)
 
-pub loop-n-preserved : goal.loop-n-preserved
-loop-n-preserved c = (omega arith, sym (next_past c.args.plan.now c.loop-n.n _ c.loop-n-test.true (sym c.if-is_free.ensures)) ∙ c.loop-n.invariant.1)
+pub returns-in-Some : goal.returns-in-Some
+returns-in-Some c = number_at c.args.from c.args.plan.now _ c.in-Some.ensures.is
 
-pub returns : goal.returns
-returns c = sym (next_none c.args.plan.now c.loop-n.n c.loop-n-test.false) ∙ c.loop-n.invariant.1
+pub returns-in-None : goal.returns-in-None
+returns-in-None c = number_at c.args.from c.args.plan.now _ c.in-None.ensures.is

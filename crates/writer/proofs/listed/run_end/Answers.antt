@@ -3,8 +3,8 @@ use Rattle.writer.specs.Listing.{front}
 use Rattle.writer.proofs.Listing.{listed_end}
 use Rattle.writer.proofs.listed.run_end.Goals as goal
 
-pub returns : goal.returns
-returns c =
+pub returns-clause-is : goal.returns-clause-is
+returns-clause-is c =
     let e = ap (λ xs. length (front xs)) (listed_end c.args.plan.now c.loop-n.n c.loop-n-test.false) in
     let i = c.loop-n.invariant in
-    record { is = omega arith; within = omega arith }
+    omega arith

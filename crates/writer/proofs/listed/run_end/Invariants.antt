@@ -1,10 +1,6 @@
-use Rattle.std.proofs.Common.{◌≡◌, ◌+◌, ◌-◌, ◌≤◌, length}
+use Rattle.std.proofs.Common.{◌≡◌, ◌+◌, length}
 use Rattle.writer.specs.Listing.{front, listed_at}
 use Rattle.writer.proofs.listed.run_end.Given as goal
 
 abbrev pub invariant-loop-n : goal.invariant-loop-n
-invariant-loop-n l =
-    (l.n ≤ length l.plan) × (l.n + length (front (listed_at l.plan l.n)) ≡ l.from + length (front (listed_at l.plan l.from)))
-
-abbrev pub decreases-loop-n : goal.decreases-loop-n
-decreases-loop-n l = length l.initial.plan - l.n
+invariant-loop-n l = l.n + length (front (listed_at l.plan l.n)) ≡ l.from + length (front (listed_at l.plan l.from))

@@ -20,14 +20,14 @@ write_change-requires c =
 pub planned-requires : goal.planned-requires
 planned-requires c =
     let e = ap (λ o. entry_gen (option_map (state_in []) o)) c.cell_at-before.ensures in
-    let s = small_generation c.args.n [] c.args.cells.now c.requires.generations in
+    let s = small_generation c.args.n [] c.args.newest.now.cells.now c.args.newest.now.generations in
     omega arith
 
 pub returns : goal.returns
 returns c =
     let h = c.args.held.now in
     let n = c.args.n in
-    let cs = c.args.cells.now in
+    let cs = c.args.newest.now.cells.now in
     let u = update_of h in
     let g = c.generation_of.result in
     let e = ap room_for c.find-change.ensures.is in
@@ -39,11 +39,11 @@ returns c =
           record {
             bytes = adds_as c.write_change.ensures
                 (ap (change_bytes n g) c.find-change.ensures.is
-                ∙ bytes_by_change n g (c.args.len + count c.args.draft.now) (nth n (states_in file cs)) (find n u) (c.generation_of.ensures file ∙ ap entry_gen s));
+                ∙ bytes_by_change n g (c.args.newest.now.len + count c.args.draft.now) (nth n (states_in file cs)) (find n u) (c.generation_of.ensures file ∙ ap entry_gen s));
             rows = c.push.ensures.rows
                 ∙ ap (λ x. rows_of c.args.plan.now ++ x ∷ [])
                 (c.planned.ensures file (pool_of h)
-                ∙ planned_by _ _ _ _ _ _ (ap (λ k. c.args.len + k) c.len.ensures) s c.find-change.ensures.is);
+                ∙ planned_by _ _ _ _ _ _ (ap (λ k. c.args.newest.now.len + k) c.len.ensures) s c.find-change.ensures.is);
           };
       count = c.push.ensures.count;
       grown = omega arith;

@@ -7,7 +7,7 @@ use Rattle.writer.proofs.numbers.write_objects.Goals as goal
 pub loop-n-init : goal.loop-n-init
 loop-n-init c =
     let b = weight_bound 0 c.args.held.now in (
-      λ file. halfway_start file c.args.cells.now (update_of c.args.held.now) c.args.len c.args.size c.args.draft.now c.clear.new.self c.requires.empty c.clear.ensures.rows,
+      λ file. halfway_start file c.args.newest.now.cells.now (update_of c.args.held.now) c.args.newest.now.len c.args.size c.args.draft.now c.clear.new.self c.requires.empty c.clear.ensures.rows,
       c.clear.ensures.count,
       omega arith,
       refl,
@@ -17,14 +17,14 @@ pub write_number-requires : goal.write_number-requires
 write_number-requires c =
     let i = c.loop-n.invariant in
     let w = weight_step c.loop-n.n (update_of c.args.held.now) in
-    record { few = omega arith; number = omega arith; length = c.requires.length; generations = c.requires.generations; room = omega arith }
+    record { few = omega arith; number = omega arith; room = omega arith }
 
 pub loop-n-preserved : goal.loop-n-preserved
 loop-n-preserved c =
     let i = c.loop-n.invariant in
     let w = weight_step c.loop-n.n (update_of c.args.held.now) in
     let e = c.write_number.ensures in (
-      λ file. halfway_step file c.args.cells.now (update_of c.args.held.now) c.args.len c.args.size c.loop-n.n c.args.draft.now c.loop-n.draft c.write_number.new.draft c.loop-n.plan c.write_number.new.plan c.loop-n-test.true (i.0 file) (e.writes file),
+      λ file. halfway_step file c.args.newest.now.cells.now (update_of c.args.held.now) c.args.newest.now.len c.args.size c.loop-n.n c.args.draft.now c.loop-n.draft c.write_number.new.draft c.loop-n.plan c.write_number.new.plan c.loop-n-test.true (i.0 file) (e.writes file),
       omega arith,
       omega arith,
       e.limit ∙ i.3,
@@ -34,7 +34,7 @@ pub returns : goal.returns
 returns c =
     let i = c.loop-n.invariant in
     record {
-      writes = λ file. halfway_all file c.args.cells.now (update_of c.args.held.now) c.args.len c.args.size c.loop-n.n c.args.draft.now c.loop-n.draft c.loop-n.plan c.loop-n-test.false i.3 (i.0 file);
+      writes = λ file. halfway_all file c.args.newest.now.cells.now (update_of c.args.held.now) c.args.newest.now.len c.args.size c.loop-n.n c.args.draft.now c.loop-n.draft c.loop-n.plan c.loop-n-test.false i.3 (i.0 file);
       count = omega arith;
       grown = omega arith;
     }

@@ -1,4 +1,4 @@
-use Rattle.std.proofs.Common.{◌≡◌, ◌+◌, ◌-◌, ◌*◌, ◌≤◌, [], ◌++◌, length}
+use Rattle.std.proofs.Common.{◌≡◌, ◌+◌, ◌*◌, [], ◌++◌, length}
 use Rattle.format.specs.Writing.{slots_on}
 use Rattle.writer.specs.Drafts.{Room, limit_of, written}
 use Rattle.writer.specs.Listing.{front, listed_at}
@@ -6,11 +6,7 @@ use Rattle.writer.proofs.runs.write_entries.Given as goal
 
 abbrev pub invariant-loop-n : goal.invariant-loop-n
 invariant-loop-n l =
-    (l.n ≤ length l.plan)
-    × (l.n + length (front (listed_at l.plan l.n)) ≡ l.first + length (front (listed_at l.plan l.first)))
+    (l.n + length (front (listed_at l.plan l.n)) ≡ l.end)
     × Room l.draft (20 * length (front (listed_at l.plan l.n)))
     × (limit_of l.draft ≡ limit_of l.initial.draft)
     × (written l.draft ++ slots_on (front (listed_at l.plan l.n)) [] ≡ written l.initial.draft ++ slots_on (front (listed_at l.plan l.first)) [])
-
-abbrev pub decreases-loop-n : goal.decreases-loop-n
-decreases-loop-n l = length l.initial.plan - l.n

@@ -23,7 +23,7 @@ write_entries-requires c =
     let r = c.requires.room in
     let g = c.run_line.ensures.grown in
     let m = c.run_line.ensures.limit in
-    record { within = c.requires.within; room = omega arith }
+    record { end = k; within = w; room = omega arith }
 
 pub returns : goal.returns
 returns c =
@@ -31,7 +31,7 @@ returns c =
     let k = c.run_end-end.ensures.is in
     let q : c.run_end-end.result - c.args.first ≡ length fs = omega arith in
     record {
-      adds = adds_as (adds_then c.run_line.ensures c.write_entries.ensures.adds) (ap (λ n. line_bytes c.args.first n ++ slots_on fs []) q ∙ run_parts c.args.first fs);
-      is = c.write_entries.ensures.is;
-      within = c.write_entries.ensures.within;
+      adds = adds_as (adds_then c.run_line.ensures c.write_entries.ensures) (ap (λ n. line_bytes c.args.first n ++ slots_on fs []) q ∙ run_parts c.args.first fs);
+      is = k;
+      within = c.run_end-end.ensures.within;
     }

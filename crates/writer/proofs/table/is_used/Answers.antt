@@ -2,13 +2,13 @@ use Rattle.std.proofs.Common.{refl}
 use Rattle.format.specs.Book.{is_used}
 use Rattle.writer.proofs.table.is_used.Goals as goal
 
-pub returns-in-Used : goal.returns-in-Used
+pub returns-in-Some-Used : goal.returns-in-Some-Used
 unfolding is_used
-returns-in-Used c = λ file. rw (c.in-Some.is, c.in-Used.is) refl
+returns-in-Some-Used c = λ file. let f = rw c.in-Some-Used.is at c.in-Some-Used.field-0-is in rw (c.in-Some-Used.is, f) refl
 
-pub returns-in-Free : goal.returns-in-Free
+pub returns-in-Some-Free : goal.returns-in-Some-Free
 unfolding is_used
-returns-in-Free c = λ file. rw (c.in-Some.is, c.in-Free.is) refl
+returns-in-Some-Free c = λ file. let f = rw c.in-Some-Free.is at c.in-Some-Free.field-0-is in rw (c.in-Some-Free.is, f) refl
 
 pub returns-in-None : goal.returns-in-None
 unfolding is_used

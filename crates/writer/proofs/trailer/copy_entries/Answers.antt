@@ -47,6 +47,6 @@ pub returns : goal.returns
 returns c =
     let i = c.entries.invariant in
     record {
-      adds = λ es h. copying_done c.args.src.now c.entries.at es c.args.draft.now c.entries.draft (i.0 es h) (sym c.in-None.ensures) i.3;
+      adds = λ es h. copying_done c.args.src.now c.entries.at es c.args.draft.now c.entries.draft (i.0 es h) (sym c.in_default.ensures) i.3;
       grown = i.2;
     }

@@ -6,6 +6,7 @@ use Rattle.keeping.specs.Staying.{RowAt}
 use Rattle.keeping.proofs.Commits.{newest_section}
 use Rattle.records.specs.Trailers.{TrailerSeen}
 use Rattle.writer.specs.Plans.{GenerationsFit}
+use Rattle.writer.proofs.Copied.{reads}
 use Rattle.bounds.proofs.Bounded.{bounded}
 use Rattle.book.specs.Books.{update_in, revisions_in, cells_in}
 use Rattle.book.proofs.Committed.{newest_reads, newest_trailer}
@@ -26,8 +27,8 @@ unreachable-requires g c =
 pub cells_of-cells-requires : goal.cells_of-cells-requires
 cells_of-cells-requires g c = row_inside g.S.Store.meaning c.args.self.now c.requires.sound c.requires.updating _ c.revisions.ensures c.last_row-row.result c.last_row-row.ensures _ c.cells.ensures
 
-pub write-requires : goal.write-requires
-write-requires g c =
+pub invariant_of-newest : goal.invariant_of-newest
+invariant_of-newest g c =
     let b = c.args.self.now in
     let f = (g.S.Store.meaning b.store).bytes in
     let st = (updating_sound g.S.Store.meaning c.args.self.now c.requires.sound c.requires.updating).0 in
@@ -38,12 +39,12 @@ write-requires g c =
     let cells_are = c.cells_of-cells.ensures ∙ ap (λ cs. cells_of cs c.last_row-row.result) c.cells.ensures in
     let seen = subst (λ w. TrailerSeen f c.last_row-row.result.offset w c.in-Ok.place) (sym c.seen.ensures) c.in-Ok.ensures.is in
     record {
-      size = omega (arith, t.size, known.size);
+      small = omega (arith, t.size, known.size);
       generations = subst GenerationsFit (sym cells_are) (known.generations c.last_row-row.result a);
-      len = omega (arith, c.len.ensures, known.short);
-      prev = omega (arith, o, known.offset, known.short);
-      readable = (seen.sec.trailer, (seen.closes, seen.behind, seen.trailer));
-      window = seen.few;
+      short = omega (arith, c.len.ensures, known.short);
+      placed = omega (arith, o, known.offset, known.short);
+      narrow = seen.few;
+      readable = reads _ _ (seen.sec.trailer, (seen.closes, seen.behind, seen.trailer));
     }
 
 pub returns : goal.returns

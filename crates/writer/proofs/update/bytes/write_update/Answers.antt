@@ -3,7 +3,8 @@ use Rattle.format.specs.Writing.{object_bytes, runs, section_bytes, update_objec
 use Rattle.writer.specs.Drafts.{written}
 use Rattle.writer.specs.Helds.{update_of}
 use Rattle.writer.specs.Listing.{listed_at}
-use Rattle.writer.specs.Plans.{all_made}
+use Rattle.writer.specs.Plans.{all_made, plan_count, rows_of}
+use Rattle.writer.proofs.Copied.{read_some}
 use Rattle.writer.proofs.Updates.{size_is_fact, objects_are, section_is, update_is}
 use Rattle.writer.proofs.update.bytes.write_update.Goals as goal
 
@@ -13,22 +14,20 @@ write_section-requires c =
     let b = (c.write_objects.ensures.writes []).bytes.limit in
     let g = c.write_objects.ensures.grown in
     let n = c.write_objects.ensures.count in
-    let l = c.as_slice.ensures.len in
     let k = c.len-objects.ensures in
     let f = c.new_numbers.ensures.few in
-    let s = c.requires.size in
+    let s = c.args.newest.now.small in
     let m = c.requires.limit in
-    let x = c.requires.len in
-    let p = c.requires.prev in
-    record { number = omega arith; prev = omega arith; at = omega arith; readable = c.requires.readable; window = c.requires.window; room = omega arith }
+    let x = c.args.newest.now.short in
+    record { at = omega arith; room = omega arith }
 
 pub returns : goal.returns
 returns c =
     let u = update_of c.args.held.now in
-    let cs = c.args.cells.now in
-    let len = c.args.len in
+    let cs = c.args.newest.now.cells.now in
+    let len = c.args.newest.now.len in
     let size = length cs + c.new_numbers.result in
-    let plan = c.as_slice.result.now in
+    let plan = rows_of c.write_objects.new.plan in
     let objects = c.len-objects.result in
     record {
       bytes = λ file v t p read.
@@ -42,15 +41,16 @@ returns c =
           let k = c.len-objects.ensures in
           let q = ap length o in
           let count_is : objects ≡ length (update_objects len v u) = omega arith in
-          let rows : plan ≡ _ = c.as_slice.ensures.value ∙ w.rows in
-          let many : length plan ≡ size = c.as_slice.ensures.len ∙ c.write_objects.ensures.count in
-          let section = section_is file cs v u len size (len + objects) c.args.prev plan t e rows (ap (λ i. len + i) count_is) p in (
+          let rows : plan ≡ _ = w.rows in
+          let many : plan_count c.write_objects.new.plan ≡ size = c.write_objects.ensures.count in
+          let section = section_is file cs v u len size (len + objects) c.args.newest.now.offset plan t e rows (ap (λ i. len + i) count_is) p in (
             s.bytes
                 ∙ update_is len v u (written c.write_objects.new.draft) _ first
-                (ap (λ i. section_bytes (len + objects) (runs 0 (listed_at plan 0)) v.trailer i (Some c.args.prev)) many ∙ section),
+                (ap (λ i. section_bytes (len + objects) (runs 0 (listed_at plan 0)) v.trailer i (Some c.args.newest.now.offset)) many ∙ section),
             count_is,
           );
       limit =
-          let s = c.write_section.ensures c.requires.readable.0 c.requires.readable.1 in
+          let y = read_some c.args.newest.now.window.now c.args.newest.now.inside c.args.newest.now.readable in
+          let s = c.write_section.ensures y.0 y.1 in
           s.limit ∙ (c.write_objects.ensures.writes []).bytes.limit ∙ c.clear.ensures.limit;
     }
