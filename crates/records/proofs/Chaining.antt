@@ -1,6 +1,5 @@
 -- The chain of sections, link by link.
-use Rattle.std.proofs.Common.{◌≡◌, ℕ, suc, ◌+◌, ◌-◌, ◌<◌, ◌≤◌, true, false, ltb, List, [], ◌∷◌, ◌++◌, ℤ, pos, negsuc, nat_abs, IfSome, Some, None, Ok, Err, Option, sym, refl, ap, ◌∙◌, arith, ltb-true, le-ltb, lt-ltb}
-use lib.Signed.{lt_z}
+use Rattle.std.proofs.Common.{◌≡◌, ℕ, suc, ◌+◌, ◌-◌, ◌<◌, ◌≤◌, true, false, ltb, List, [], ◌∷◌, ◌++◌, ℤ, pos, negsuc, IfSome, Some, None, Ok, Err, Option, sym, refl, ap, ◌∙◌, arith, ltb-true, le-ltb, lt-ltb}
 use Rattle.faults.specs.declared.fault.Fault.{Fault}
 use Rattle.faults.specs.declared.reason.Reason.TheVariants.{ChainRule, FileBound}
 use Rattle.format.specs.Bytes.{Bytes}
@@ -10,7 +9,7 @@ use Rattle.format.specs.Revisions.{most_revisions}
 use Rattle.opening.specs.declared.rows.Rows.{Rows}
 use Rattle.locality.proofs.Cases.{cases, cases_o}
 use Rattle.tables.proofs.Answered.{err_ok}
-use Rattle.tables.proofs.Finds.{true_false, some_none}
+use Rattle.tables.proofs.Finds.{some_none}
 use Rattle.records.specs.declared.chain.Ending.{Ending}
 use Rattle.records.specs.declared.chain.Ending.TheVariants.{By}
 use Rattle.records.specs.declared.link.Link as code
@@ -24,20 +23,17 @@ pub prev_none : (off : ℕ) → before off None ≡ Ok None
 unfolding before
 prev_none off = refl
 
-pub prev_negative : (off : ℕ) (z : ℤ) → lt_z z (pos 0) ≡ true → before off (Some z) ≡ Err (chain_fault ChainRule off 0)
+pub prev_negative : (off n : ℕ) → before off (Some (negsuc n)) ≡ Err (chain_fault ChainRule off 0)
 unfolding before below
-prev_negative off (pos n) h = absurd (let k : n < 0 = ltb-true n 0 h in omega arith)
-prev_negative off (negsuc n) h = refl
+prev_negative off n = refl
 
-pub prev_high : (off : ℕ) (z : ℤ) → lt_z z (pos 0) ≡ false → off ≤ nat_abs z → before off (Some z) ≡ Err (chain_fault ChainRule off 0)
+pub prev_high : (off n : ℕ) → off ≤ n → before off (Some (pos n)) ≡ Err (chain_fault ChainRule off 0)
 unfolding before below
-prev_high off (pos n) h l = let e : below off (pos n) ≡ None = rw (le-ltb n off l, below) refl in rw (e, before) refl
-prev_high off (negsuc n) h l = true_false h
+prev_high off n l = let e : below off (pos n) ≡ None = rw (le-ltb n off l, below) refl in rw (e, before) refl
 
-pub prev_low : (off : ℕ) (z : ℤ) → lt_z z (pos 0) ≡ false → nat_abs z < off → before off (Some z) ≡ Ok (Some (nat_abs z))
+pub prev_low : (off n : ℕ) → n < off → before off (Some (pos n)) ≡ Ok (Some n)
 unfolding before below
-prev_low off (pos n) h l = let e : below off (pos n) ≡ Some n = rw (lt-ltb n off l, below) refl in rw (e, before) refl
-prev_low off (negsuc n) h l = true_false h
+prev_low off n l = let e : below off (pos n) ≡ Some n = rw (lt-ltb n off l, below) refl in rw (e, before) refl
 
 below_less : (off : ℕ) (z : ℤ) (n : ℕ) → below off z ≡ Some n → n < off
 unfolding below

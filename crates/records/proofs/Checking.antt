@@ -1,6 +1,7 @@
 -- What a section lists, check by check; and the section at an offset.
-use Rattle.std.proofs.Common.{◌≡◌, ℕ, ◌<◌, ◌≤◌, Bool, true, false, eqb, List, length, take, drop, ℤ, pos, negsuc, nat_abs, Some, None, Ok, Err, sym, refl, ap, ◌∙◌, arith, le-leb}
-use lib.Signed.{le_z}
+use Rattle.std.proofs.Common.{◌≡◌, ℕ, ◌<◌, ◌≤◌, Bool, true, false, eqb, List, length, take, drop, ℤ, unsigned_abs, Some, None, Ok, Err, Result, w64, SFits, sym, refl, ap, ◌∙◌, le-leb}
+use Rattle.std.specs.Int.{FitsUnsignedBits}
+use Rattle.std.specs.Result.{OkIff, result_eq}
 use borrow.Author.Tests.{lt-leb}
 use Rattle.faults.specs.declared.fault.Fault.{Fault}
 use Rattle.faults.specs.declared.reason.Reason.TheVariants.{BytesEnd, BadTrailer, ChainRule, FileBound}
@@ -9,19 +10,14 @@ use Rattle.format.specs.Chain.{window_bytes, Told, told, in_bound, section_in}
 use Rattle.format.specs.Failures.{chain_fault, section_fault}
 use Rattle.format.specs.Revisions.{State, highest, size_is, slots_fit, covered, root_fits}
 use Rattle.format.specs.Sections.{Listed, listed, Section, section}
-use Rattle.tables.proofs.Finds.{true_false}
+use Rattle.records.proofs.Converted.{converted_ok, converted_err}
 use Rattle.records.specs.Links.{link_of, link_at, rows_checked}
 
--- Size, where it is from 0 on and where it is not
-pub size_in : (z : ℤ) (n : ℕ) → le_z (pos 0) z ≡ true → eqb (nat_abs z) n ≡ size_is z n
+-- Size
+pub size_told : {E : Type 0} (n : ℕ) (z y : ℤ) (r : Result ℕ E) (same : E → E → Bool) (b : Bool) → SFits w64 z → y ≡ z → OkIff r (FitsUnsignedBits 64 y) (unsigned_abs y) → b ≡ result_eq eqb same r (Ok n) → b ≡ size_is z n
 unfolding size_is
-size_in (pos m) n h = refl
-size_in (negsuc m) n h = true_false (sym h)
-
-pub size_out : (z : ℤ) (n : ℕ) → le_z (pos 0) z ≡ false → le_z (pos 0) z ≡ size_is z n
-unfolding size_is
-size_out (pos m) n h = true_false (sym (le-leb 0 m (omega arith)) ∙ h)
-size_out (negsuc m) n h = h
+size_told {E} n z y (Ok k) same b f e o m = m ∙ ap (λ x. size_is x n) (sym (converted_ok {E = E} z y (Ok k) f e o k refl))
+size_told {E} n z y (Err d) same b f e o m = let q = converted_err {E = E} z y (Err d) f e o d refl in m ∙ ap (λ x. size_is x n) (sym q.1)
 
 module _ (fits : Bool) (off : ℕ) (t : Told) (new : Listed) (old : List State) where
   pub check_subs : fits ≡ false → rows_checked fits off t new old ≡ Err (chain_fault ChainRule off 0)
@@ -55,18 +51,15 @@ pub section_past : (file : Bytes) (off : ℕ) → length file < off → section_
 unfolding section_in
 section_past file off h = rw (lt-leb off (length file) h, section_in) refl
 
-pub link_past : (file : Bytes) (off : ℕ) → length file < off → link_at file off ≡ Err (section_fault BytesEnd (length file))
+-- a section that is refused
+pub link_bad : (file : Bytes) (off : ℕ) (f : Fault) → section_in file off ≡ bad f → link_at file off ≡ Err f
 unfolding link_at
-link_past file off h = rw (section_past file off h, link_at) refl
+link_bad file off f e = rw (e, link_at) refl
 
 module _ (file : Bytes) (off : ℕ) (src : Bytes) (h : off ≤ length file) (w : src ≡ take window_bytes (drop off file)) where
   pub section_here : (x : Got Section) → section off src ≡ x → section_in file off ≡ x
   unfolding section_in
   section_here x e = rw (le-leb off (length file) h, section_in) (ap (section off) (sym w) ∙ e)
-
-  pub link_bad : (f : Fault) → section off src ≡ bad f → link_at file off ≡ Err f
-  unfolding link_at
-  link_bad f e = rw (section_here (bad f) e, link_at) refl
 
   module _ (s : Section) (p : ℕ) (rest : Bytes) (e : section off src ≡ ok s p rest) where
     pub link_high : in_bound (listed s.subsections) ≡ false → link_at file off ≡ Err (chain_fault FileBound 0 0)

@@ -5,13 +5,12 @@ use Rattle.format.specs.Bytes.{Bytes}
 use Rattle.format.specs.Revisions.{State, find, nth, either, overlaid}
 use Rattle.entries.specs.declared.cell.Cell.{Cell}
 use Rattle.entries.specs.declared.cell.Cell.TheVariants.{Used, Free}
-use Rattle.entries.specs.declared.entry.Row.{Row}
 use Rattle.entries.specs.declared.revision.Revision.{Revision}
 use Rattle.entries.specs.Cells.{state_in, states_in, EndsBy, AllEndBy}
 use Rattle.entries.specs.Tables.{cells_of, revision_in, Stacked, Within}
 use Rattle.locality.proofs.Cases.{cases, cases_o}
 use Rattle.tables.proofs.Finds.{some_none}
-use Rattle.records.specs.Laid.{cells_with, laid, states_by}
+use Rattle.records.specs.Laid.{cells_in, laid, states_by}
 use Rattle.records.proofs.Tabling.{stacked_le}
 
 -- cells that end before a place end before a later one
@@ -24,17 +23,16 @@ all_later a b [] h k = tt
 all_later a b (c ∷ cs) h k = (later a b c h k.0, all_later a b cs h k.1)
 
 -- the cells of a table that is laid end before its section
-find_ends : (off n : ℕ) (rows : List Row) (fresh : List Cell) (c : Cell) → AllEndBy off fresh → find n (cells_with rows fresh) ≡ Some c → EndsBy off c
-unfolding find cells_with
-find_ends off n [] fresh c a e = some_none (sym e)
-find_ends off n (r ∷ rs) [] c a e = some_none (sym e)
-find_ends off n (r ∷ rs) (x ∷ xs) c a e =
-    cases (eqb n r.number)
+find_ends : (off n : ℕ) (new : List (ℕ × Cell)) (c : Cell) → AllEndBy off (cells_in new) → find n new ≡ Some c → EndsBy off c
+unfolding find
+find_ends off n [] c a e = some_none (sym e)
+find_ends off n (x ∷ xs) c a e =
+    cases (eqb n x.0)
     (λ q.
-    let z : Some x ≡ Some c = rw (q, find) at e in
-    let y : x ≡ c = cc in
+    let z : Some x.1 ≡ Some c = rw (q, find) at e in
+    let y : x.1 ≡ c = cc in
     rw (← y) a.0)
-    (λ q. find_ends off n rs xs c a.1 (rw (q, find) at e))
+    (λ q. find_ends off n xs c a.1 (rw (q, find) at e))
 
 nth_ends : (off n : ℕ) (old : List Cell) (c : Cell) → AllEndBy off old → nth n old ≡ Some c → EndsBy off c
 unfolding nth
@@ -42,19 +40,19 @@ nth_ends off n [] c a e = some_none (sym e)
 nth_ends off zero (x ∷ xs) c a e = let z : Some x ≡ Some c = e in let y : x ≡ c = cc in rw (← y) a.0
 nth_ends off (suc n) (x ∷ xs) c a e = nth_ends off n xs c a.1 e
 
-either_ends : (off n : ℕ) (rows : List Row) (fresh old : List Cell) (c : Cell) → AllEndBy off fresh → AllEndBy off old → either (find n (cells_with rows fresh)) (nth n old) ≡ Some c → EndsBy off c
-either_ends off n rows fresh old c a b e =
-    cases_o (find n (cells_with rows fresh))
+either_ends : (off n : ℕ) (new : List (ℕ × Cell)) (old : List Cell) (c : Cell) → AllEndBy off (cells_in new) → AllEndBy off old → either (find n new) (nth n old) ≡ Some c → EndsBy off c
+either_ends off n new old c a b e =
+    cases_o (find n new)
     (λ q. nth_ends off n old c b (rw q at e))
-    (λ x q. find_ends off n rows fresh c a (q ∙ (rw q at e)))
+    (λ x q. find_ends off n new c a (q ∙ (rw q at e)))
 
-pub laid_ends : (off k n : ℕ) (rows : List Row) (fresh old : List Cell) → AllEndBy off fresh → AllEndBy off old → AllEndBy off (laid k n (cells_with rows fresh) old)
+pub laid_ends : (off k n : ℕ) (new : List (ℕ × Cell)) (old : List Cell) → AllEndBy off (cells_in new) → AllEndBy off old → AllEndBy off (laid k n new old)
 unfolding laid
-laid_ends off zero n rows fresh old a b = tt
-laid_ends off (suc k) n rows fresh old a b =
-    cases_o (either (find n (cells_with rows fresh)) (nth n old))
+laid_ends off zero n new old a b = tt
+laid_ends off (suc k) n new old a b =
+    cases_o (either (find n new) (nth n old))
     (λ q. rw (q, laid) tt)
-    (λ c q. rw (q, laid) (either_ends off n rows fresh old c a b q, laid_ends off k (suc n) rows fresh old a b))
+    (λ c q. rw (q, laid) (either_ends off n new old c a b q, laid_ends off k (suc n) new old a b))
 
 -- a table that is laid stands for the states over those before
 seen : Bytes → Option Cell → Option State

@@ -1,5 +1,5 @@
 -- The cells of rows, and the table that is laid of them, number by number.
-use Rattle.std.proofs.Common.{◌≡◌, ℕ, zero, suc, ◌+◌, ◌-◌, ◌<◌, ◌≤◌, true, false, ◌&&◌, eqb, List, [], ◌∷◌, ◌++◌, length, get_or, drop, Some, None, sym, refl, ap, ◌∙◌, ⊎_elim, append_assoc, add-one, arith}
+use Rattle.std.proofs.Common.{◌≡◌, ℕ, zero, suc, ◌+◌, ◌-◌, ◌<◌, ◌≤◌, true, false, ◌&&◌, eqb, List, [], ◌∷◌, ◌++◌, length, get_or, drop, Bor, Option, Some, None, sym, refl, ap, ◌∙◌, ⊎_elim, append_assoc, add-one, arith}
 use Rattle.std.proofs.lemmas.List.{append-nil, get_or_append_left, get_or-drop, length-drop}
 use Rattle.format.specs.Bytes.{Bytes}
 use Rattle.format.specs.Revisions.{State, find, nth, either, used_with, root_fits, covered}
@@ -8,13 +8,16 @@ use Rattle.entries.specs.declared.cell.Cell.TheVariants.{Used, Free}
 use Rattle.entries.specs.declared.entry.Row.{Row}
 use Rattle.entries.specs.Cells.{state_in, states_in}
 use Rattle.entries.specs.Rows.{rows_of, slot_of}
-use Rattle.std.proofs.lemmas.Bool.{cases_lt}
+use Rattle.std.proofs.lemmas.Bool.{cases_lt, ltb-true, ltb-false}
+use Rattle.std.specs.List as List
+use Rattle.std.specs.Option.{option_map}
+use Rattle.std.specs.Slice.{IsItemAt}
 use Rattle.locality.proofs.Cases.{cases}
 use Rattle.tables.proofs.Finds.{some_none}
 use Rattle.tables.proofs.SoundTables.{covered_at}
 use Rattle.records.specs.Listing.{numbers_of, place_from}
-use Rattle.records.specs.Laid.{cells_with, laid, used_at}
-use Rattle.records.proofs.Listings.{place_none}
+use Rattle.records.specs.Laid.{Covers, numbers_in, laid, used_at}
+use Rattle.records.proofs.Listings.{place_none, eqb_turned}
 
 -- what stands at a place of a table
 nth_at : {A : Type 0} (n : ℕ) (xs : List A) (d : A) → n < length xs → nth n xs ≡ Some (get_or xs n d)
@@ -49,6 +52,15 @@ pub free_held : (file : Bytes) (n g : ℕ) (cells : List Cell) (d : Cell) (h m :
 unfolding used_at used_with
 free_held file n g cells d h m l is = rw (state_at file n cells d l, used_at) (rw is refl)
 
+-- what a place of a table that was read holds
+pub cell_got : (cells : List Cell) (n : ℕ) (o : Option (Bor Cell)) (x : Bor Cell) → IsItemAt cells n o → o ≡ Some x → (n < length cells) × (get_or cells n x.now ≡ x.now)
+cell_got cells n None x a e = some_none (sym e)
+cell_got cells n (Some y) x a e = let z : y ≡ x = cc in (ltb-true n (length cells) (sym a.0), rw (← z) (sym a.1))
+
+pub cell_past : (cells : List Cell) (n : ℕ) (o : Option (Bor Cell)) → IsItemAt cells n o → o ≡ None → length cells ≤ n
+cell_past cells n None a e = ltb-false n (length cells) (sym a.0)
+cell_past cells n (Some y) a e = some_none e
+
 -- the row of a number that has a place
 row_at : (k n i : ℕ) (rows : List Row) → place_from k n (numbers_of rows) ≡ Some i → (d : Row) → (j : ℕ) × (i ≡ k + j) × (j < length rows) × (find n (rows_of rows) ≡ Some (slot_of (get_or rows j d).entry))
 unfolding place_from find
@@ -76,80 +88,73 @@ pub root_before : (root gen : ℕ) (rows : List Row) (old : List State) → None
 unfolding root_fits used_at
 root_before root gen rows old e = rw (place_none 0 root rows (sym e), root_fits) refl
 
--- the new cell of a number that has a place, and of one that has none
-with_some : (k n i : ℕ) (rows : List Row) (fresh : List Cell) → length fresh ≡ length rows → place_from k n (numbers_of rows) ≡ Some i → (d : Cell) → (j : ℕ) × (i ≡ k + j) × (find n (cells_with rows fresh) ≡ Some (get_or fresh j d))
-unfolding place_from find cells_with
-with_some k n i [] fresh h e d = some_none (sym e)
-with_some k n i (r ∷ rs) [] h e d = absurd (omega arith)
-with_some k n i (r ∷ rs) (c ∷ cs) h e d =
-    cases (eqb n r.number)
-    (λ q.
-    let z : Some k ≡ Some i = rw (q, place_from) at e in
-    let y : k ≡ i = cc in
-    (zero, omega arith, rw (q, find) refl))
-    (λ q.
-    let w = with_some (suc k) n i rs cs (omega arith) (rw (q, place_from) at e) d in
-    (suc w.0, omega (arith, w.1), rw (q, find) w.2))
+-- the number of a cell that was found, and of a row that its section lists
+found_pair : (n : ℕ) (new : List (ℕ × Cell)) → option_map (λ (c : ℕ × Cell). c.1) (List.find (λ (c : ℕ × Cell). eqb c.0 n) new) ≡ find n new
+unfolding find
+found_pair n [] = refl
+found_pair n (x ∷ xs) =
+    cases (eqb n x.0)
+    (λ q. let e : eqb x.0 n ≡ true = eqb_turned x.0 n ∙ q in rw (e, q, find) refl)
+    (λ q. let e : eqb x.0 n ≡ false = eqb_turned x.0 n ∙ q in rw (e, q, find) (found_pair n xs))
 
-with_none : (k n : ℕ) (rows : List Row) (fresh : List Cell) → length fresh ≡ length rows → place_from k n (numbers_of rows) ≡ None → find n (cells_with rows fresh) ≡ None
-unfolding place_from find cells_with
-with_none k n [] fresh h e = refl
-with_none k n (r ∷ rs) [] h e = absurd (omega arith)
-with_none k n (r ∷ rs) (c ∷ cs) h e =
-    cases (eqb n r.number)
-    (λ q. some_none (rw (q, place_from) at e))
-    (λ q. rw (q, find) (with_none (suc k) n rs cs (omega arith) (rw (q, place_from) at e)))
+pub found_cell : (n : ℕ) (new : List (ℕ × Cell)) (o : Option (Bor (ℕ × Cell))) → option_map (λ (x : Bor (ℕ × Cell)). x.now) o ≡ List.find (λ (c : ℕ × Cell). eqb c.0 n) new → option_map (λ (x : Bor (ℕ × Cell)). x.now.1) o ≡ find n new
+found_cell n new None e = ap (option_map (λ (c : ℕ × Cell). c.1)) e ∙ found_pair n new
+found_cell n new (Some x) e = ap (option_map (λ (c : ℕ × Cell). c.1)) e ∙ found_pair n new
+
+none_same : (n : ℕ) (new : List (ℕ × Cell)) (rows : List Row) → numbers_in new ≡ numbers_of rows → find n new ≡ None → find n (rows_of rows) ≡ None
+unfolding find
+none_same n [] [] e f = refl
+none_same n [] (r ∷ rs) e f = absurd (let q = ap length e in omega arith)
+none_same n (x ∷ xs) [] e f = absurd (let q = ap length e in omega arith)
+none_same n (x ∷ xs) (r ∷ rs) e f =
+    let a : x.0 ≡ r.number = cc in
+    let b : numbers_in xs ≡ numbers_of rs = cc in
+    cases (eqb n x.0)
+    (λ q. some_none (rw (q, find) at f))
+    (λ q. let p : eqb n r.number ≡ false = ap (eqb n) (sym a) ∙ q in rw (p, find) (none_same n xs rs b (rw (q, find) at f)))
+
+-- the cells of rows that cover a table cover it
+pub covers : (size old : ℕ) (rows : List Row) (new : List (ℕ × Cell)) → covered size 0 (rows_of rows) old ≡ true → numbers_in new ≡ numbers_of rows → Covers size new old
+covers size old rows new c p = λ n h e.
+    ⊎_elim
+    (λ (l : n < old). l)
+    (λ (l : old ≤ n). absurd (covered_at size 0 (rows_of rows) old c n (omega arith) (omega arith) l (none_same n new rows p e)))
+    (cases_lt n old)
 
 -- one number further of a table
 laid_step : (k n : ℕ) (new : List (ℕ × Cell)) (old : List Cell) (c : Cell) → either (find n new) (nth n old) ≡ Some c → laid (suc k) n new old ≡ c ∷ laid k (suc n) new old
 unfolding laid
 laid_step k n new old c e = rw (e, laid) refl
 
-abbrev pub Laying : (items was : List Cell) (first size n : ℕ) → List Row → List Cell → Type 0
-Laying items was first size n rows fresh =
-    items ++ laid (size - n) n (cells_with rows fresh) (drop first was) ≡ was ++ laid size 0 (cells_with rows fresh) (drop first was)
+abbrev pub Laying : (items was : List Cell) (first size n : ℕ) → List (ℕ × Cell) → Type 0
+Laying items was first size n new = items ++ laid (size - n) n new (drop first was) ≡ was ++ laid size 0 new (drop first was)
 
-lay_on : (items was : List Cell) (first size n : ℕ) (rows : List Row) (fresh : List Cell) (c : Cell) → n < size →
-    either (find n (cells_with rows fresh)) (nth n (drop first was)) ≡ Some c → Laying items was first size n rows fresh → Laying (items ++ c ∷ []) was first size (n + 1) rows fresh
-lay_on items was first size n rows fresh c h e l =
+lay_on : (items was : List Cell) (first size n : ℕ) (new : List (ℕ × Cell)) (c : Cell) → n < size → either (find n new) (nth n (drop first was)) ≡ Some c → Laying items was first size n new → Laying (items ++ c ∷ []) was first size (n + 1) new
+lay_on items was first size n new c h e l =
     let a : size - n ≡ suc (size - (n + 1)) = omega arith in
     append_assoc items (c ∷ []) _
-    ∙ ap (λ (t : List Cell). items ++ t) (ap (λ (m : ℕ). c ∷ laid (size - (n + 1)) m (cells_with rows fresh) (drop first was)) (add-one n) ∙ sym (laid_step (size - (n + 1)) n (cells_with rows fresh) (drop first was) c e) ∙ ap (λ (m : ℕ). laid m n (cells_with rows fresh) (drop first was)) (sym a))
+    ∙ ap (λ (t : List Cell). items ++ t) (ap (λ (m : ℕ). c ∷ laid (size - (n + 1)) m new (drop first was)) (add-one n) ∙ sym (laid_step (size - (n + 1)) n new (drop first was) c e) ∙ ap (λ (m : ℕ). laid m n new (drop first was)) (sym a))
     ∙ l
 
-pub lay_listed : (items was : List Cell) (first size n i : ℕ) (rows : List Row) (fresh : List Cell) (d : Cell) → n < size → length fresh ≡ length rows → Some i ≡ place_from 0 n (numbers_of rows) →
-    Laying items was first size n rows fresh → Laying (items ++ get_or fresh i d ∷ []) was first size (n + 1) rows fresh
-lay_listed items was first size n i rows fresh d h p e l =
-    let w = with_some 0 n i rows fresh p (sym e) d in
-    let z : w.0 ≡ i = omega (arith, w.1) in
-    lay_on items was first size n rows fresh (get_or fresh i d) h (rw (w.2, z) refl) l
+pub lay_listed : (items was : List Cell) (first size n : ℕ) (new : List (ℕ × Cell)) (c : Cell) → n < size → Some c ≡ find n new → Laying items was first size n new → Laying (items ++ c ∷ []) was first size (n + 1) new
+lay_listed items was first size n new c h e l = lay_on items was first size n new c h (ap (λ o. either o (nth n (drop first was))) (sym e)) l
 
 -- the cell before is still there, since the cells only grow
 kept_cell : (items was more rest : List Cell) (i : ℕ) (d : Cell) → items ++ more ≡ was ++ rest → i < length items → i < length was → get_or items i d ≡ get_or was i d
 kept_cell items was more rest i d e a b = sym (get_or_append_left items more d i a) ∙ ap (λ (t : List Cell). get_or t i d) e ∙ get_or_append_left was rest d i b
 
-pub lay_before : (items was : List Cell) (first size n : ℕ) (rows : List Row) (fresh : List Cell) (d : Cell) → n < size → length fresh ≡ length rows → None ≡ place_from 0 n (numbers_of rows) → first + n < length was → first + n < length items →
-    Laying items was first size n rows fresh → Laying (items ++ get_or items (first + n) d ∷ []) was first size (n + 1) rows fresh
-lay_before items was first size n rows fresh d h p e b a l =
-    let w = with_none 0 n rows fresh p (sym e) in
+pub lay_before : (items was : List Cell) (first size n : ℕ) (new : List (ℕ × Cell)) (d : Cell) → n < size → None ≡ find n new → first + n < length was → first + n < length items →
+    Laying items was first size n new → Laying (items ++ get_or items (first + n) d ∷ []) was first size (n + 1) new
+lay_before items was first size n new d h e b a l =
     let g : get_or (drop first was) n d ≡ get_or items (first + n) d = get_or-drop first was n d ∙ sym (kept_cell items was _ _ (first + n) d l a b) in
     let z : nth n (drop first was) ≡ Some (get_or items (first + n) d) = nth_at n (drop first was) d (simp length-drop (omega arith)) ∙ ap Some g in
-    lay_on items was first size n rows fresh (get_or items (first + n) d) h (rw (w, z) refl) l
+    lay_on items was first size n new (get_or items (first + n) d) h (ap (λ o. either o (nth n (drop first was))) (sym e) ∙ z) l
 
--- a number without a row, of a table that is covered, stood before
-pub stood_before : (size n old : ℕ) (rows : List Row) → covered size 0 (rows_of rows) old ≡ true → n < size → None ≡ place_from 0 n (numbers_of rows) → n < old
-stood_before size n old rows c h e =
-    ⊎_elim
-    (λ (l : n < old). l)
-    (λ (l : old ≤ n). absurd (covered_at size 0 (rows_of rows) old c n (omega arith) (omega arith) l (place_none 0 n rows (sym e))))
-    (cases_lt n old)
-
-pub lay_end : (items was : List Cell) (first size n : ℕ) (rows : List Row) (fresh : List Cell) → size ≤ n → Laying items was first size n rows fresh →
-    items ≡ was ++ laid size 0 (cells_with rows fresh) (drop first was)
+pub lay_end : (items was : List Cell) (first size n : ℕ) (new : List (ℕ × Cell)) → size ≤ n → Laying items was first size n new → items ≡ was ++ laid size 0 new (drop first was)
 unfolding laid
-lay_end items was first size n rows fresh h l =
+lay_end items was first size n new h l =
     let z : size - n ≡ 0 = omega arith in
-    sym (append-nil items) ∙ ap (λ (t : List Cell). items ++ t) (sym (ap (λ (m : ℕ). laid m n (cells_with rows fresh) (drop first was)) z)) ∙ l
+    sym (append-nil items) ∙ ap (λ (t : List Cell). items ++ t) (sym (ap (λ (m : ℕ). laid m n new (drop first was)) z)) ∙ l
 
-pub lay_by : (items was after : List Cell) (first size n : ℕ) (rows : List Row) (fresh : List Cell) (c x : Cell) → after ≡ items ++ c ∷ [] → c ≡ x → Laying (items ++ x ∷ []) was first size n rows fresh → Laying after was first size n rows fresh
-lay_by items was after first size n rows fresh c x e q l = rw (e, q) l
+pub lay_by : (items was after : List Cell) (first size n : ℕ) (new : List (ℕ × Cell)) (c x : Cell) → after ≡ items ++ c ∷ [] → c ≡ x → Laying (items ++ x ∷ []) was first size n new → Laying after was first size n new
+lay_by items was after first size n new c x e q l = rw (e, q) l

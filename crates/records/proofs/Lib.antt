@@ -1,4 +1,5 @@
 pub mod Answering
+pub mod Converted
 pub mod Listings
 pub mod Laying
 pub mod Filling

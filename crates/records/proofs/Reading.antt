@@ -1,6 +1,6 @@
 -- The objects of a section, row by row.
-use Rattle.std.proofs.Common.{◌≡◌, ℕ, zero, suc, ◌+◌, ◌-◌, ◌^◌, ◌<◌, ◌≤◌, min, true, ltb, leb, List, [], ◌∷◌, ◌++◌, length, get_or, take, drop, ℤ, IfOk, Ok, Err, Result, sym, refl, ap, ◌∙◌, append_assoc, arith, length-drop, length-take, ltb-true, eq-eqb}
-use Rattle.std.proofs.lemmas.List.{append-nil, at_drop_more, at_drop_all, drop-drop, take_more, take_all, length-take-le}
+use Rattle.std.proofs.Common.{◌≡◌, ℕ, zero, suc, ◌+◌, ◌-◌, ◌^◌, ◌<◌, ◌≤◌, min, true, false, ltb, leb, List, [], ◌∷◌, ◌++◌, length, get_or, take, drop, ℤ, IfOk, Ok, Err, Result, sym, refl, ap, ◌∙◌, append_assoc, arith, length-drop, length-take, ltb-true, eq-eqb}
+use Rattle.std.proofs.lemmas.List.{append-nil, at_drop_more, at_drop_all, drop-drop, map_push, take_more, take_all, length-take-le}
 use Rattle.faults.specs.declared.fault.Fault.{Fault}
 use Rattle.faults.specs.declared.reason.Reason.TheVariants.{ChainRule}
 use Rattle.faults.specs.Faults.{of_object}
@@ -19,7 +19,8 @@ use Rattle.objects.specs.declared.frame.Frame.{Frame}
 use Rattle.objects.specs.Framing.{framed_at, FrameLies}
 use Rattle.stores.proofs.Windows.{front_window}
 use Rattle.tables.proofs.Answered.{must_ok}
-use Rattle.records.specs.Laid.{cells_with, states_by}
+use Rattle.records.specs.Laid.{cells_in, numbers_in, states_by}
+use Rattle.records.specs.Listing.{numbers_of}
 use Rattle.records.specs.Objects.{state_read, FramedCell}
 use Rattle.records.proofs.Answering.{also_same, also_made}
 use Rattle.records.proofs.Listings.{used_rule}
@@ -77,16 +78,8 @@ unfolding state_of
 free_read file off n next g = refl
 
 -- the answers of the rows before are those read, and those of the others are still to come
-abbrev pub ReadSo : Bytes → ℕ → List Row → ℕ → List Cell → Type 0
-ReadSo file off rows i cells =
-    states_of file off (rows_of rows) ≡ also (states_of file off (rows_of (drop i rows))) (λ ts. Ok (states_by file (cells_with (take i rows) cells) ++ ts))
-
-cells_push : (rows : List Row) (cells : List Cell) (r : Row) (c : Cell) → length cells ≡ length rows → cells_with (rows ++ r ∷ []) (cells ++ c ∷ []) ≡ cells_with rows cells ++ (r.number, c) ∷ []
-unfolding cells_with
-cells_push [] [] r c h = refl
-cells_push [] (x ∷ xs) r c h = absurd (omega arith)
-cells_push (y ∷ ys) [] r c h = absurd (omega arith)
-cells_push (y ∷ ys) (x ∷ xs) r c h = ap (λ (t : List (ℕ × Cell)). (y.number, x) ∷ t) (cells_push ys xs r c (omega arith))
+abbrev pub ReadSo : Bytes → ℕ → List Row → ℕ → List (ℕ × Cell) → Type 0
+ReadSo file off rows i cells = states_of file off (rows_of rows) ≡ also (states_of file off (rows_of (drop i rows))) (λ ts. Ok (states_by file cells ++ ts))
 
 states_push : (file : Bytes) (cs : List (ℕ × Cell)) (c : ℕ × Cell) → states_by file (cs ++ c ∷ []) ≡ states_by file cs ++ (c.0, state_in file c.1) ∷ []
 unfolding states_by
@@ -94,43 +87,34 @@ states_push file [] c = refl
 states_push file (x ∷ xs) c = ap (λ (t : List (ℕ × State)). (x.0, state_in file x.1) ∷ t) (states_push file xs c)
 
 pub read_start : (file : Bytes) (off : ℕ) (rows : List Row) → ReadSo file off rows 0 []
-unfolding cells_with states_by
+unfolding states_by
 read_start file off rows = also_same (states_of file off (rows_of rows))
 
-module _ (file : Bytes) (off : ℕ) (rows : List Row) (i : ℕ) (d : Row) (h : i < length rows) (cells : List Cell) where
+module _ (file : Bytes) (off : ℕ) (rows : List Row) (i : ℕ) (d : Row) (h : i < length rows) (cells : List (ℕ × Cell)) where
   states_rest : (t : State) → state_of file off (get_or rows i d).number (slot_of (get_or rows i d).entry) ≡ Ok t →
       states_of file off (rows_of (drop i rows)) ≡ also (states_of file off (rows_of (drop (i + 1) rows))) (λ ts. Ok (((get_or rows i d).number, t) ∷ ts))
   unfolding states_of
   states_rest t e = at_drop_more (λ rs. states_of file off (rows_of rs)) rows i d h ∙ rw e refl
 
-  cells_more : (c : Cell) → length cells ≡ i →
-      states_by file (cells_with (take (i + 1) rows) (cells ++ c ∷ [])) ≡ states_by file (cells_with (take i rows) cells) ++ ((get_or rows i d).number, state_in file c) ∷ []
-  cells_more c l =
-      let k : length cells ≡ length (take i rows) = (let q = length-take-le i rows (omega arith) in omega arith) in
-      ap (λ (rs : List Row). states_by file (cells_with rs (cells ++ c ∷ []))) (take_more rows i d h)
-      ∙ ap (states_by file) (cells_push (take i rows) cells (get_or rows i d) c k)
-      ∙ states_push file (cells_with (take i rows) cells) ((get_or rows i d).number, c)
-
-  read_on : (c : Cell) → length cells ≡ i → state_of file off (get_or rows i d).number (slot_of (get_or rows i d).entry) ≡ Ok (state_in file c) →
-      ReadSo file off rows i cells → ReadSo file off rows (i + 1) (cells ++ c ∷ [])
-  read_on c l e so =
+  read_on : (c : Cell) → state_of file off (get_or rows i d).number (slot_of (get_or rows i d).entry) ≡ Ok (state_in file c) → ReadSo file off rows i cells → ReadSo file off rows (i + 1) (cells ++ ((get_or rows i d).number, c) ∷ [])
+  read_on c e so =
       so
-      ∙ ap (λ (x : Answer (List (ℕ × State))). also x (λ ts. Ok (states_by file (cells_with (take i rows) cells) ++ ts))) (states_rest (state_in file c) e)
-      ∙ also_made (states_of file off (rows_of (drop (i + 1) rows))) (λ ts. ((get_or rows i d).number, state_in file c) ∷ ts) (λ ts. states_by file (cells_with (take i rows) cells) ++ ts) (λ ts. states_by file (cells_with (take (i + 1) rows) (cells ++ c ∷ [])) ++ ts)
-      (λ ts. sym (append_assoc (states_by file (cells_with (take i rows) cells)) (((get_or rows i d).number, state_in file c) ∷ []) ts) ∙ ap (λ (t : List (ℕ × State)). t ++ ts) (sym (cells_more c l)))
+      ∙ ap (λ (x : Answer (List (ℕ × State))). also x (λ ts. Ok (states_by file cells ++ ts))) (states_rest (state_in file c) e)
+      ∙ also_made (states_of file off (rows_of (drop (i + 1) rows))) (λ ts. ((get_or rows i d).number, state_in file c) ∷ ts) (λ ts. states_by file cells ++ ts) (λ ts. states_by file (cells ++ ((get_or rows i d).number, c) ∷ []) ++ ts)
+      (λ ts. sym (append_assoc (states_by file cells) (((get_or rows i d).number, state_in file c) ∷ []) ts) ∙ ap (λ (t : List (ℕ × State)). t ++ ts) (sym (states_push file cells ((get_or rows i d).number, c))))
 
   pub read_stop : (f : Fault) → state_of file off (get_or rows i d).number (slot_of (get_or rows i d).entry) ≡ Err f → ReadSo file off rows i cells → states_of file off (rows_of rows) ≡ Err f
   unfolding states_of
   read_stop f e so =
       let z : states_of file off (rows_of (drop i rows)) ≡ Err f = at_drop_more (λ rs. states_of file off (rows_of rs)) rows i d h ∙ rw e refl in
-      so ∙ ap (λ (x : Answer (List (ℕ × State))). also x (λ ts. Ok (states_by file (cells_with (take i rows) cells) ++ ts))) z
+      so ∙ ap (λ (x : Answer (List (ℕ × State))). also x (λ ts. Ok (states_by file cells ++ ts))) z
 
-pub read_end : (file : Bytes) (off : ℕ) (rows : List Row) (i : ℕ) (cells : List Cell) → length rows ≤ i → ReadSo file off rows i cells → states_of file off (rows_of rows) ≡ Ok (states_by file (cells_with rows cells))
+pub read_end : (file : Bytes) (off : ℕ) (rows : List Row) (i : ℕ) (cells : List (ℕ × Cell)) → length rows ≤ i → ReadSo file off rows i cells → states_of file off (rows_of rows) ≡ Ok (states_by file cells)
 unfolding states_of
 read_end file off rows i cells h so =
     so
-    ∙ ap (λ (x : Answer (List (ℕ × State))). also x (λ ts. Ok (states_by file (cells_with (take i rows) cells) ++ ts))) (at_drop_all (λ rs. states_of file off (rows_of rs)) rows i h)
-    ∙ ap Ok (append-nil _ ∙ ap (λ (rs : List Row). states_by file (cells_with rs cells)) (take_all i rows h))
+    ∙ ap (λ (x : Answer (List (ℕ × State))). also x (λ ts. Ok (states_by file cells ++ ts))) (at_drop_all (λ rs. states_of file off (rows_of rs)) rows i h)
+    ∙ ap Ok (append-nil _)
 
 -- where every entry fits, an entry in use points below its section
 slots_row : (off : ℕ) (size : ℤ) (rows : List Row) (i : ℕ) (d : Row) → slots_fit off size (rows_of rows) ≡ Ok tt → i < length rows → slot_fits off size (get_or rows i d).number (slot_of (get_or rows i d).entry) ≡ true
@@ -151,10 +135,20 @@ ends_push off [] c a e = (e, tt)
 ends_push off (x ∷ xs) c a e = (a.0, ends_push off xs c a.1 e)
 
 -- one row further, with what a loop knows of it
-module _ (file : Bytes) (off : ℕ) (rows : List Row) (i : ℕ) (d : Row) (h : i < length rows) (cells after : List Cell) (c : Cell) (e : after ≡ cells ++ c ∷ []) where
-  pub read_more : length cells ≡ i → state_of file off (get_or rows i d).number (slot_of (get_or rows i d).entry) ≡ Ok (state_in file c) → ReadSo file off rows i cells → ReadSo file off rows (i + 1) after
-  read_more l q so = rw e (read_on file off rows i d h cells c l q so)
+module _ (file : Bytes) (off : ℕ) (rows : List Row) (i : ℕ) (d : Row) (h : i < length rows) (cells after : List (ℕ × Cell)) (c : Cell) (e : after ≡ cells ++ ((get_or rows i d).number, c) ∷ []) where
+  pub read_more : state_of file off (get_or rows i d).number (slot_of (get_or rows i d).entry) ≡ Ok (state_in file c) → ReadSo file off rows i cells → ReadSo file off rows (i + 1) after
+  read_more q so = rw e (read_on file off rows i d h cells c q so)
 
-  pub ends_more : ((size : ℤ) → slots_fit off size (rows_of rows) ≡ Ok tt → AllEndBy off cells) → (((slot_of (get_or rows i d).entry).in_use ≡ true → (slot_of (get_or rows i d).entry).field < off) → EndsBy off c) →
-      (size : ℤ) → slots_fit off size (rows_of rows) ≡ Ok tt → AllEndBy off after
-  ends_more all one size q = rw e (ends_push off cells c (all size q) (one (points_below off size rows i d q h)))
+  pub paired_more : numbers_in cells ≡ numbers_of (take i rows) → numbers_in after ≡ numbers_of (take (i + 1) rows)
+  paired_more p =
+      ap numbers_in e
+      ∙ map_push (λ (x : ℕ × Cell). x.0) cells ((get_or rows i d).number, c)
+      ∙ ap (λ (ns : List ℕ). ns ++ (get_or rows i d).number ∷ []) p
+      ∙ sym (map_push (λ (r : Row). r.number) (take i rows) (get_or rows i d))
+      ∙ ap numbers_of (sym (take_more rows i d h))
+
+  pub ends_more : ((size : ℤ) → slots_fit off size (rows_of rows) ≡ Ok tt → AllEndBy off (cells_in cells)) → (((slot_of (get_or rows i d).entry).in_use ≡ true → (slot_of (get_or rows i d).entry).field < off) → EndsBy off c) →
+      (size : ℤ) → slots_fit off size (rows_of rows) ≡ Ok tt → AllEndBy off (cells_in after)
+  ends_more all one size q =
+      let p : cells_in after ≡ cells_in cells ++ c ∷ [] = ap cells_in e ∙ map_push (λ (x : ℕ × Cell). x.1) cells ((get_or rows i d).number, c) in
+      rw p (ends_push off (cells_in cells) c (all size q) (one (points_below off size rows i d q h)))

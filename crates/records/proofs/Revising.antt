@@ -19,7 +19,7 @@ use Rattle.entries.specs.Tables.{bare, cells_of, revision_in, Stacked, Within, T
 use Rattle.opening.specs.declared.rows.Rows.{Rows}
 use Rattle.opening.specs.Held.{rows_held}
 use Rattle.records.specs.declared.link.Link.{Link}
-use Rattle.records.specs.Laid.{cells_with, laid, states_by}
+use Rattle.records.specs.Laid.{laid, states_by}
 use Rattle.records.specs.Linked.{told_by, LinkRead}
 use Rattle.records.specs.Links.{link_at, is_first, next_revision, subs_fit, rows_checked, revision_by}
 use Rattle.records.specs.Objects.{CellsOf}
@@ -144,29 +144,29 @@ module _ (file : Bytes) (h : List format.Revision) (revs : List Revision) (cells
       next_made ts e = next_by ∙ rw (← c, e) refl
 
       -- the tables with the revision that was made
-      pub revised : (size : ℤ) → slots_fit off size (rows_of listing) ≡ Ok tt → (fresh : List Cell) → CellsOf file off listing fresh → (after : List Revision) (whole : List Cell) →
-          after ≡ revs ++ held_as k n (length cells) ∷ [] → whole ≡ cells ++ laid n 0 (cells_with listing fresh) (newest_cells revs cells) → length whole ≡ length cells + n → (newest_or blank h).offset ≤ off →
+      pub revised : (size : ℤ) → slots_fit off size (rows_of listing) ≡ Ok tt → (fresh : List (ℕ × Cell)) → CellsOf file off listing fresh → (after : List Revision) (whole : List Cell) →
+          after ≡ revs ++ held_as k n (length cells) ∷ [] → whole ≡ cells ++ laid n 0 fresh (newest_cells revs cells) → length whole ≡ length cells + n → (newest_or blank h).offset ≤ off →
           (new : format.Revision) × (next_revision file h off ≡ Ok new) × (new.offset ≡ off) × TablesOf file (h ++ new ∷ []) after whole
       revised size fit fresh cs after whole a w len later =
           let m = newest_is file h revs cells t in
-          let more = laid n 0 (cells_with listing fresh) (newest_cells revs cells) in
+          let more = laid n 0 fresh (newest_cells revs cells) in
           let held = held_as k n (length cells) in
-          let ts = states_by file (cells_with listing fresh) in
+          let ts = states_by file fresh in
           let long : length more ≡ n = (let q = ap length w ∙ length-append cells more in omega arith) in
           let p : l.tree.sec.offset ≡ k.offset = l.offset ∙ sym l.here in
           let s : l.tree.says ≡ told_by k.told = l.says in
-          let z : overlaid n 0 ts (newest_or blank h).states ≡ states_in file more = ap (overlaid n 0 ts) m.states ∙ sym (laid_states file n 0 (cells_with listing fresh) (newest_cells revs cells)) in
+          let z : overlaid n 0 ts (newest_or blank h).states ≡ states_in file more = ap (overlaid n 0 ts) m.states ∙ sym (laid_states file n 0 fresh (newest_cells revs cells)) in
           let b : bare (revision_by l.tree n ts (newest_or blank h).states) ≡ record { offset = held.offset; end = held.end; size = held.size; root = held.root; root_gen = held.root_generation; trailer = no_entries; states = states_in file more } =
           (λ i. record { offset = p i; end = l.ends i; size = n; root = (s i).root; root_gen = (s i).root_gen; trailer = no_entries; states = z i }) in
-          let ends : AllEndBy off more = laid_ends off n 0 listing fresh (newest_cells revs cells) (cs.ends size fit) (all_later (newest_or blank h).offset off (newest_cells revs cells) later m.ends) in
+          let ends : AllEndBy off more = laid_ends off n 0 fresh (newest_cells revs cells) (cs.ends size fit) (all_later (newest_or blank h).offset off (newest_cells revs cells) later m.ends) in
           (revision_by l.tree n ts (newest_or blank h).states, next_made ts cs.is, l.offset, tables_more file h revs after cells whole t (revision_by l.tree n ts (newest_or blank h).states) held more a w refl long b (rw l.here ends))
 
 -- what was said of the same rows and cells
-pub cells_as : (file : Bytes) (off : ℕ) (rows listing : List Row) (cells : List Cell) → rows ≡ listing → CellsOf file off rows cells → CellsOf file off listing cells
+pub cells_as : (file : Bytes) (off : ℕ) (rows listing : List Row) (cells : List (ℕ × Cell)) → rows ≡ listing → CellsOf file off rows cells → CellsOf file off listing cells
 cells_as file off rows listing cells e c = rw e at c
 
-pub laid_as : (n : ℕ) (rows listing : List Row) (fresh new old cells whole : List Cell) → rows ≡ listing → fresh ≡ new → whole ≡ cells ++ laid n 0 (cells_with rows fresh) old → whole ≡ cells ++ laid n 0 (cells_with listing new) old
-laid_as n rows listing fresh new old cells whole e f w = rw (e, f) at w
+pub laid_as : (n : ℕ) (fresh new : List (ℕ × Cell)) (old cells whole : List Cell) → fresh ≡ new → whole ≡ cells ++ laid n 0 fresh old → whole ≡ cells ++ laid n 0 new old
+laid_as n fresh new old cells whole e w = rw e at w
 
 pub tabled_more : (revs after : List Revision) (cells whole : List Cell) (k : Link) (n : ℕ) → Tabled revs cells → n ≤ 1000 → after ≡ revs ++ held_as k n (length cells) ∷ [] → length whole ≡ length cells + n → Tabled after whole
 tabled_more revs after cells whole k n t h a w =

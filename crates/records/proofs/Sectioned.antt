@@ -1,7 +1,9 @@
 -- The section at an offset, by what was read of it.
-use Rattle.std.proofs.Common.{◌≡◌, ℕ, ◌+◌, ◌^◌, ◌<◌, ◌≤◌, true, false, length, take, drop, Some, None, Err, Option, sym, refl, ap, ◌∙◌, arith, length-take}
+use Rattle.std.proofs.Common.{◌≡◌, ℕ, ◌+◌, ◌^◌, ◌<◌, ◌≤◌, true, false, length, take, drop, Some, None, Ok, Err, Option, Result, MatchResult, subst, sym, refl, ap, ◌∙◌, arith, length-take}
 use Rattle.faults.specs.declared.reason.Reason.TheVariants.{BadTrailer, FileBound}
-use Rattle.format.specs.Bytes.{Bytes, ok}
+use Rattle.faults.specs.declared.fault.Fault.{Fault}
+use Rattle.format.specs.Bytes.{Bytes, ok, bad}
+use Rattle.format.specs.Sections.{section}
 use Rattle.format.specs.Chain.{window_bytes, told, in_bound}
 use Rattle.format.specs.Chain as format
 use Rattle.format.specs.Failures.{chain_fault, section_fault}
@@ -14,7 +16,7 @@ use Rattle.opening.specs.Held.{listed_by}
 use Rattle.opening.specs.Sections.{SectionRead}
 use Rattle.records.specs.Linked.{told_by, LinkRead}
 use Rattle.records.specs.Links.{link_at}
-use Rattle.records.specs.Trailers.{TrailerSeen}
+use Rattle.records.specs.Trailers.{TrailerSeen, SectionSeen}
 use Rattle.records.proofs.Checking.{section_here, link_high, link_untold, link_told}
 
 -- a window is no longer than it may be
@@ -25,13 +27,19 @@ window_few file src at w = let q = ap length w ∙ length-take window_bytes (dro
 abbrev pub Answers : Bytes → ℕ → Option format.Told → Type 0
 Answers src inside t = (es : Entries) (q : ℕ) (ys : Bytes) → entries (object_by 31) turns no_entries inside (drop inside src) ≡ ok es q ys → t ≡ told es
 
+-- what was read of a section in a window, whose bytes it is
+pub section_seen : (file : Bytes) (off : ℕ) (src seen : Bytes) (rows : Rows) (r : Result Section Fault) → off ≤ length file → src ≡ take window_bytes (drop off file) → src ≡ seen →
+    MatchResult r (λ s. SectionRead off src s rows) (λ f. section off src ≡ bad f) → SectionSeen file off seen rows r
+section_seen file off src seen rows (Ok s) h w e k = (h, sym e ∙ w, subst (λ (t : Bytes). SectionRead off t s rows) e k)
+section_seen file off src seen rows (Err f) h w e k = section_here file off src h w (bad f) k
+
 module _ (file : Bytes) (off : ℕ) (src : Bytes) (s : Section) (rows : Rows) (h : off ≤ length file) (w : src ≡ take window_bytes (drop off file)) (r : SectionRead off src s rows) where
   pub read_high : in_bound (listed_by rows) ≡ false → link_at file off ≡ Err (chain_fault FileBound 0 0)
   read_high b = link_high file off src h w r.tree _ _ r.is (ap in_bound r.listed ∙ b)
 
-  pub read_untold : (again : Bytes) → again ≡ src → Answers again s.inside None → in_bound (listed_by rows) ≡ true → link_at file off ≡ Err (section_fault BadTrailer (off + s.mark))
-  read_untold again e a b =
-      link_untold file off src h w r.tree _ _ r.is (ap in_bound r.listed ∙ b) (sym (a _ _ _ (ap (λ (t : Bytes). entries (object_by 31) turns no_entries s.inside (drop s.inside t)) e ∙ r.trailer)))
+  pub read_untold : (again : Bytes) (t : Option format.Told) → again ≡ src → t ≡ None → Answers again s.inside t → in_bound (listed_by rows) ≡ true → link_at file off ≡ Err (section_fault BadTrailer (off + s.mark))
+  read_untold again t e n a b =
+      link_untold file off src h w r.tree _ _ r.is (ap in_bound r.listed ∙ b) (sym (a _ _ _ (ap (λ (t : Bytes). entries (object_by 31) turns no_entries s.inside (drop s.inside t)) e ∙ r.trailer)) ∙ n)
       ∙ ap (λ (p : ℕ). Err (section_fault BadTrailer p)) r.marked
 
   pub read_told : (again : Bytes) (t : Told) → again ≡ src → Answers again s.inside (Some (told_by t)) → in_bound (listed_by rows) ≡ true →

@@ -1,20 +1,20 @@
 -- No revision of a file that opens has a table that is too large.
-use Rattle.std.proofs.Common.{◌≡◌, ℕ, zero, suc, ◌≤◌, max, Bool, true, false, leb, List, [], ◌∷◌, map, length, Ok, Option, sym, ap, ◌∙◌, arith, leb-true}
+use Rattle.std.proofs.Common.{◌≡◌, ℕ, zero, suc, ◌≤◌, Bool, true, false, leb, List, [], ◌∷◌, map, length, Ok, Option, sym, ap, ◌∙◌, arith}
 use Rattle.faults.specs.declared.reason.Reason.TheVariants.{ChainRule, NoHeader, FileBound}
 use Rattle.format.specs.Bytes.{Bytes}
 use Rattle.format.specs.Chain.{Answer, also, must, told, in_bound, Link, before, section_in, link, walk}
 use Rattle.format.specs.Failures.{chain_fault}
 use Rattle.format.specs.Revisions.{State, find, nth, either, highest, overlaid, revision, revisions, header_fits, file_bytes, most_revisions, Opened, opens_from, opens}
 use Rattle.format.specs.Revisions as format
-use Rattle.format.specs.Sections.{Listed, listed, Section, last_offset}
+use Rattle.format.specs.Sections.{listed, Section, last_offset}
 use Rattle.entries.specs.declared.cell.Cell.{Cell}
 use Rattle.entries.specs.declared.revision.Revision.{Revision}
 use Rattle.entries.specs.Tables.{bare, revision_in, TablesOf}
 use Rattle.chains.proofs.Steps.{by_reading}
 use Rattle.locality.proofs.Cases.{cases_o}
-use Rattle.locality.proofs.Tests.{and_left, and_right}
 use Rattle.tables.proofs.Answered.{err_ok, also_ok, must_ok}
 use Rattle.tables.proofs.SoundTables.{accepted}
+use Rattle.records.proofs.Listings.{highest_bound}
 use Rattle.records.specs.Links.{link_of, link_at}
 use Rattle.records.specs.Tabled.{AllSmall, Tabled}
 use Rattle.records.proofs.Stepping.{linked, link_by}
@@ -72,14 +72,7 @@ walk_bound (suc n) file off fits newer ls e a =
     rw (← z) (b, a))
     (λ p q. walk_bound n file p (λ e. leb e off) (w.0.0 ∷ newer) ls (rw q at w.2) (b, a))
 
--- a Size is at most 1000, and no table is longer
-highest_bound : (m : ℕ) (rows : Listed) → in_bound rows ≡ true → m ≤ 1000 → highest m rows ≤ 1000
-unfolding in_bound highest
-highest_bound m [] b h = h
-highest_bound m (r ∷ rs) b h =
-    let k = leb-true r.0 999 (and_left (leb r.0 999) (in_bound rs) b) in
-    highest_bound (max m (suc r.0)) rs (and_right (leb r.0 999) (in_bound rs) b) (omega arith)
-
+-- no table is longer than its numbers
 overlaid_short : (k n : ℕ) (ts : List (ℕ × State)) (old : List State) → length (overlaid k n ts old) ≤ k
 unfolding overlaid
 overlaid_short zero n ts old = omega arith

@@ -1,16 +1,20 @@
 -- The cells of a revision's table: those that its section lists, over those of the table before.
-use Rattle.std.specs.Prelude.{ℕ, zero, suc, Bool, false, List, [], ◌∷◌, Some, None}
+use Rattle.std.specs.Prelude.{◌≡◌, ℕ, zero, suc, ◌<◌, Bool, false, List, [], ◌∷◌, map, Some, None}
 use Rattle.format.specs.Bytes.{Bytes}
 use Rattle.format.specs.Revisions.{State, used_with, find, nth, either}
 use Rattle.entries.specs.declared.cell.Cell.{Cell}
-use Rattle.entries.specs.declared.entry.Row.{Row}
 use Rattle.entries.specs.Cells.{state_in}
 
--- the cell of each row, with the row's number
-unfoldable pub cells_with : List Row → List Cell → List (ℕ × Cell)
-cells_with [] cs = []
-cells_with (r ∷ rs) [] = []
-cells_with (r ∷ rs) (c ∷ cs) = (r.number, c) ∷ cells_with rs cs
+-- the numbers of numbered cells, and the cells alone
+abbrev pub numbers_in : List (ℕ × Cell) → List ℕ
+numbers_in cs = map (λ (c : ℕ × Cell). c.0) cs
+
+abbrev pub cells_in : List (ℕ × Cell) → List Cell
+cells_in cs = map (λ (c : ℕ × Cell). c.1) cs
+
+-- every number below Size is listed, or stood in the table before, which had `old` numbers
+abbrev pub Covers : ℕ → List (ℕ × Cell) → ℕ → Type 0
+Covers size listed old = (n : ℕ) → n < size → find n listed ≡ None → n < old
 
 -- the table: for k numbers from n on, the cell listed now, or the one before
 unfoldable pub laid : (k n : ℕ) → List (ℕ × Cell) → List Cell → List Cell

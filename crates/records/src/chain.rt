@@ -2,8 +2,6 @@
 
 mod steps;
 
-pub use steps::walk;
-
 // Where a revision may end: at the end of the file, or at or before the next section.
 #[derive(Clone, Copy)]
 pub enum Ending {

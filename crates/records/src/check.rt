@@ -19,13 +19,13 @@ use opening::told::Told;
 pub fn subsections_fit(oldest: bool, one_from_zero: bool) -> bool
     ensures { result ≡ cond oldest one_from_zero true }
 {
-    if oldest { one_from_zero } else { true }
+    !oldest || one_from_zero
 }
 
 fn size_is(told: i64, size: usize) -> bool
     ensures { result ≡ size_is told size }
 {
-    told >= 0 && told as u64 == size as u64
+    usize::try_from(told) == Ok(size)
 }
 
 // The Size, where the entries, Size and Root fit, and the subsections do as `fits` says; `old` is the table before.

@@ -68,23 +68,23 @@ fn row_cell<S: Store>(
     }
 }
 
-// Reads the objects of a section at `offset`, row by row, into cells in the place of those held.
+// Reads the objects of a section at `offset`, row by row, into numbered cells in the place of those held.
 pub fn read_objects<S: Store>(
     store: &S,
     window: &mut Window,
     offset: usize,
     rows: &[Row],
-    cells: &mut Vec<Cell>,
+    listed: &mut Vec<(u64, Cell)>,
 ) -> Result<(), Fault>
     requires counts { length (S.Store.meaning store.now).bytes < 2 ^ 64 }
-    requires room { length rows.now ≤ vec_capacity cells.old }
-    ensures is { ReadsObjects (S.Store.meaning store.now).bytes offset rows.now cells.new.items result }
-    ensures capacity { vec_capacity cells.new ≡ vec_capacity cells.old }
+    requires room { length rows.now ≤ vec_capacity listed.old }
+    ensures is { ReadsObjects (S.Store.meaning store.now).bytes offset rows.now listed.new.items result }
+    ensures capacity { vec_capacity listed.new ≡ vec_capacity listed.old }
 {
-    cells.clear();
+    listed.clear();
     for row in rows {
         let cell = row_cell(store, window, offset, *row)?;
-        cells.push_reserved(cell);
+        listed.push_reserved((row.number, cell));
     }
     Ok(())
 }

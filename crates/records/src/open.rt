@@ -6,20 +6,21 @@ ghost use Rattle.format.specs.Sections.{last_offset};
 ghost use Rattle.records.specs.Chained.{LinkedFrom, Opens, RevisionsRead};
 ghost use Rattle.records.specs.Tabled.{Tabled, cells_held, revisions_held};
 
-use crate::chain::walk;
 use crate::revision::read_revision;
 use crate::revision_tables::Tables;
 use crate::scratch::Scratch;
-use crate::window::Window;
+use crate::window::{WINDOW_BYTES, Window};
 use faults::fault::Fault;
 use faults::layer::Layer;
 use faults::reason::Reason;
 use opening::header::header_fits;
 use opening::last::last_offset;
-use stores::store::Store;
+use stores::store::{LONGEST, Store};
 
-// The most bytes of a file.
-pub const FILE_BYTES: usize = 9_999_999;
+// The most bytes of a file, and of a section, which is read through one window.
+pub const FILE_BYTES: usize = LONGEST;
+
+pub const SECTION_BYTES: usize = WINDOW_BYTES;
 
 // The bytes of a header, and the most of a tail.
 const HEADER_BYTES: usize = 8;
@@ -53,6 +54,7 @@ fn read_revisions<S: Store>(
     ensures is { (ls : List Link) → LinkedFrom (S.Store.meaning store.now).bytes 0 ls scratch.old.offsets.items → RevisionsRead (S.Store.meaning store.now).bytes ls (revisions_held tables.new) (cells_held tables.new) result }
     ensures tabled { Tabled (revisions_held tables.new) (cells_held tables.new) }
 {
+    // Each offset is taken out of the memory first, since reading its revision needs the rest of it.
     while let Some(offset) = scratch.offsets.pop() {
         read_revision(store, scratch, tables, offset)?;
     }
@@ -76,19 +78,10 @@ pub fn open_file<S: Store>(
     if !has_header(store, &mut scratch.window) {
         return Err(Fault::met(Reason::NoHeader, Layer::Chain, 0));
     }
-    match newest_offset(store, &mut scratch.window) {
-        None => Err(Fault::met(Reason::NoTail, Layer::Chain, length)),
-        Some(newest) => {
-            walk(
-                store,
-                &mut scratch.window,
-                &mut scratch.rows,
-                &mut scratch.offsets,
-                newest as usize,
-                length,
-            )?;
-            read_revisions(store, scratch, tables)?;
-            Ok(tables.len())
-        }
-    }
+    let Some(newest) = newest_offset(store, &mut scratch.window) else {
+        return Err(Fault::met(Reason::NoTail, Layer::Chain, length));
+    };
+    scratch.walk(store, newest as usize, length)?;
+    read_revisions(store, scratch, tables)?;
+    Ok(tables.len())
 }

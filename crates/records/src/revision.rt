@@ -9,7 +9,6 @@ use crate::check::{check_rows, subsections_fit};
 use crate::listed::read_objects;
 use crate::revision_tables::Tables;
 use crate::scratch::Scratch;
-use crate::section::read_link;
 use faults::fault::Fault;
 use stores::store::Store;
 
@@ -27,7 +26,7 @@ pub fn read_revision<S: Store>(
     ensures offsets { scratch.new.offsets ≡ scratch.old.offsets }
     ensures grown { MatchResult result (λ _. length (revisions_held tables.new) ≡ length (revisions_held tables.old) + 1) (λ _. tables.new ≡ tables.old) }
 {
-    let link = read_link(store, &mut scratch.window, &mut scratch.rows, offset)?;
+    let link = scratch.read_link(store, offset)?;
     let fits = subsections_fit(tables.is_empty(), link.one_from_zero);
     let size = check_rows(
         fits,
@@ -41,13 +40,8 @@ pub fn read_revision<S: Store>(
         &mut scratch.window,
         offset,
         scratch.rows.as_slice(),
-        &mut scratch.cells,
+        &mut scratch.listed,
     )?;
-    tables.push(
-        link,
-        size,
-        scratch.rows.as_slice(),
-        scratch.cells.as_slice(),
-    );
+    tables.push(link, size, scratch.listed.as_slice());
     Ok(())
 }

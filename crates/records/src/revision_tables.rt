@@ -1,17 +1,21 @@
 // The tables of the revisions of an open file.
 ghost use Rattle.std.specs.Prelude.{◌≤◌, vec_capacity};
 
+use crate::rows::HIGHEST_NUMBER;
 use entries::cell::Cell;
 use entries::revision::Revision;
 
 mod methods;
 
-// How many revisions a file may have, and how many cells their tables.
+// How many revisions a file may have, the highest Size, and how many cells their tables have.
 pub const MOST_REVISIONS: usize = 64;
 
-pub const MOST_CELLS: usize = 64_000;
+pub const MOST_SIZE: usize = HIGHEST_NUMBER as usize + 1;
 
-// The revisions, and the cells of all their tables, one behind the other.
+pub const MOST_CELLS: usize = MOST_REVISIONS * MOST_SIZE;
+
+// The revisions, and the cells of all their tables, one behind the other: a list of cells for each revision would take memory after opening.
+// That the tables stand so is no invariant: `cut` keeps any part of them.
 #[derive(Drop)]
 pub struct Tables {
     revisions: Vec<Revision>,

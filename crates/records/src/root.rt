@@ -14,19 +14,15 @@ use entries::entry::{Entry, Row};
 fn used_at(n: usize, generation: u32, cells: &[Cell]) -> bool
     ensures { (file : Bytes) → result ≡ used_at n generation (states_in file cells.now) }
 {
-    if n >= cells.len() {
-        return false;
-    }
-    match cells[n] {
-        Cell::Used {
-            generation: held,
-            start: _,
-            end: _,
-        } => held == generation,
-        Cell::Free {
-            generation: _,
-            next: _,
-        } => false,
+    match cells.get(n) {
+        Some(
+            Cell::Used {
+                generation: held,
+                ..
+            },
+        ) => *held == generation,
+        Some(Cell::Free { .. }) => false,
+        None => false,
     }
 }
 

@@ -31,18 +31,13 @@ pub fn broken_rule(offset: usize, number: usize) -> Fault
 pub fn in_bound(rows: &[Row]) -> bool
     ensures { result ≡ in_bound (rows_of rows.now) }
 {
-    for row in rows {
-        if row.number > HIGHEST_NUMBER {
-            return false;
-        }
-    }
-    true
+    rows.iter().all(|row| row.number <= HIGHEST_NUMBER)
 }
 
 fn under_size(n: u64, size: i64) -> bool
     ensures { result ≡ under_size n size }
 {
-    size >= 0 && n < size as u64
+    u64::try_from(size).is_ok_and(|size| n < size)
 }
 
 // An entry in use in a section at `offset`: its number, its generation, and where its object stands.
@@ -84,12 +79,10 @@ fn entry_fits(offset: usize, size: i64, row: Row) -> bool
 pub fn slots_fit(offset: usize, size: i64, rows: &[Row]) -> Result<(), Fault>
     ensures { result ≡ slots_fit offset size (rows_of rows.now) }
 {
-    for row in rows {
-        if !entry_fits(offset, size, *row) {
-            return Err(broken_rule(offset, row.number as usize));
-        }
+    match rows.iter().find(|row| !entry_fits(offset, size, **row)) {
+        None => Ok(()),
+        Some(row) => Err(broken_rule(offset, row.number as usize)),
     }
-    Ok(())
 }
 
 // One more than the highest number: of those below `old`, and of those listed.
@@ -98,11 +91,8 @@ pub fn highest(old: usize, rows: &[Row]) -> usize
     ensures is { result ≡ highest old (rows_of rows.now) }
     ensures small { result ≤ 1000 }
 {
-    let mut size = old;
-    for row in rows {
-        size = size.max(row.number as usize + 1);
-    }
-    size
+    rows.iter()
+        .fold(old, |size, row| size.max(row.number as usize + 1))
 }
 
 // The place of the first row of a number.
@@ -110,22 +100,12 @@ pub fn find_row(rows: &[Row], n: u64) -> Option<usize>
     ensures is { result ≡ place_from 0 n (numbers_of rows.now) }
     ensures within { IfSome result (λ i. i < length rows.now) }
 {
-    for (i, row) in rows.iter().enumerate() {
-        if row.number == n {
-            return Some(i);
-        }
-    }
-    None
+    rows.iter().position(|row| row.number == n)
 }
 
 // Every number below Size is listed, or stood in the table before, which had `old` numbers.
 pub fn covered(size: usize, rows: &[Row], old: usize) -> bool
     ensures { result ≡ covered size 0 (rows_of rows.now) old }
 {
-    for n in 0..size {
-        if n >= old && find_row(rows, n as u64).is_none() {
-            return false;
-        }
-    }
-    true
+    (old..size).all(|n| find_row(rows, n as u64).is_some())
 }

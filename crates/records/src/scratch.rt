@@ -8,13 +8,13 @@ use opening::rows::Rows;
 
 mod methods;
 
-// A window on the file, the rows of a section and their cells, and the offsets of the sections from the newest on.
+// A window on the file, the rows of a section, the cells read for them, each with its number, and the offsets of the sections from the newest on.
 #[derive(Drop)]
 pub struct Scratch {
     pub(crate) window: Window,
     pub(crate) rows: Rows,
-    pub(crate) cells: Vec<Cell>,
+    pub(crate) listed: Vec<(u64, Cell)>,
     pub(crate) offsets: Vec<usize>,
-    ghost cells_room: { most_rows ≤ vec_capacity cells },
+    ghost listed_room: { most_rows ≤ vec_capacity listed },
     ghost offsets_room: { 64 ≤ vec_capacity offsets },
 }

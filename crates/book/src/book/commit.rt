@@ -16,13 +16,13 @@ use stores::store::Store;
 use writer::newest::Newest;
 
 // The most revisions, the highest Size, the most bytes of a file and of a section.
-const MOST_REVISIONS: usize = 64;
+const MOST_REVISIONS: usize = records::revision_tables::MOST_REVISIONS;
 
-const MOST_SIZE: usize = 1000;
+const MOST_SIZE: usize = records::revision_tables::MOST_SIZE;
 
-const MOST_BYTES: usize = 9_999_999;
+const MOST_BYTES: usize = records::open::FILE_BYTES;
 
-const MOST_SECTION: usize = 32_768;
+const MOST_SECTION: usize = records::open::SECTION_BYTES;
 
 impl<S: Store> Book<S> {
     // Writes the open update behind the file, all or nothing, and reads it back into the tables.

@@ -1,18 +1,16 @@
 // The walk along the chain.
-ghost use Rattle.std.specs.Prelude.{◌≡◌, ◌≤◌, vec_len, vec_capacity};
+ghost use Rattle.std.specs.Prelude.{◌≡◌, ◌≤◌, vec_len};
 ghost use Rattle.format.specs.Chain.{before};
-ghost use Rattle.records.specs.Chained.{ReadsNext, Walked, may_end};
+ghost use Rattle.records.specs.Chained.{may_end};
 ghost use Rattle.records.specs.declared.chain.Ending.TheVariants.{At};
 
 use crate::chain::Ending;
 use crate::revision_tables::MOST_REVISIONS;
 use crate::rows::broken_rule;
-use crate::section::read_link;
-use crate::window::Window;
+use crate::scratch::Scratch;
 use faults::fault::Fault;
 use faults::layer::Layer;
 use faults::reason::Reason;
-use opening::rows::Rows;
 use stores::store::Store;
 
 fn may_end(ending: Ending, end: usize) -> bool
@@ -28,66 +26,58 @@ fn may_end(ending: Ending, end: usize) -> bool
 fn offset_before(offset: usize, prev: Option<i64>) -> Result<Option<usize>, Fault>
     ensures { result ≡ before offset prev }
 {
-    match prev {
-        None => Ok(None),
-        Some(prev) => {
-            if prev < 0 {
-                return Err(broken_rule(offset, 0));
-            }
-            let place = prev as usize;
-            if place >= offset {
-                return Err(broken_rule(offset, 0));
-            }
-            Ok(Some(place))
-        }
+    let Some(prev) = prev else {
+        return Ok(None);
+    };
+    match usize::try_from(prev) {
+        Ok(place) if place < offset => Ok(Some(place)),
+        _ => Err(broken_rule(offset, 0)),
     }
 }
 
-// Checks the section at `offset`, and answers where the one before it starts.
-fn read_next<S: Store>(
-    store: &S,
-    window: &mut Window,
-    rows: &mut Rows,
-    offset: usize,
-    ending: Ending,
-) -> Result<Option<usize>, Fault>
-    ensures { ReadsNext (S.Store.meaning store.now).bytes offset ending result }
-{
-    let link = read_link(store, window, rows, offset)?;
-    let before = offset_before(offset, link.told.prev)?;
-    if !may_end(ending, link.end) {
-        return Err(broken_rule(offset, 0));
-    }
-    Ok(before)
-}
+impl Scratch {
+    ghost use Rattle.records.specs.Chained.{ReadsNext, Walked};
 
-// Walks the chain back from the section at `newest`, whose revision ends at `length`, and holds the offsets of its sections.
-pub fn walk<S: Store>(
-    store: &S,
-    window: &mut Window,
-    rows: &mut Rows,
-    offsets: &mut Vec<usize>,
-    newest: usize,
-    length: usize,
-) -> Result<(), Fault>
-    requires { 64 ≤ vec_capacity offsets.old }
-    ensures is { Walked (S.Store.meaning store.now).bytes newest (At length) offsets.new.items result }
-    ensures few { vec_len offsets.new ≤ 64 }
-    ensures capacity { vec_capacity offsets.new ≡ vec_capacity offsets.old }
-{
-    offsets.clear();
-    let mut offset = newest;
-    let mut ending = Ending::At(length);
-    while offsets.len() < MOST_REVISIONS {
-        let before = read_next(store, window, rows, offset, ending)?;
-        offsets.push_reserved(offset);
-        match before {
-            None => return Ok(()),
-            Some(place) => {
-                ending = Ending::By(offset);
-                offset = place;
-            }
+    // Checks the section at `offset`, and answers where the one before it starts.
+    fn read_next<S: Store>(
+        &mut self,
+        store: &S,
+        offset: usize,
+        ending: Ending,
+    ) -> Result<Option<usize>, Fault>
+        ensures is { ReadsNext (S.Store.meaning store.now).bytes offset ending result }
+        ensures kept { self.new.offsets ≡ self.old.offsets }
+    {
+        let link = self.read_link(store, offset)?;
+        let before = offset_before(offset, link.told.prev)?;
+        if !may_end(ending, link.end) {
+            return Err(broken_rule(offset, 0));
         }
+        Ok(before)
     }
-    Err(Fault::met(Reason::FileBound, Layer::Chain, 0))
+
+    // Walks the chain back from the section at `newest`, whose revision ends at `length`, and holds the offsets of its sections.
+    pub(crate) fn walk<S: Store>(
+        &mut self,
+        store: &S,
+        newest: usize,
+        length: usize,
+    ) -> Result<(), Fault>
+        ensures is { Walked (S.Store.meaning store.now).bytes newest (At length) self.new.offsets.items result }
+        ensures few { vec_len self.new.offsets ≤ 64 }
+    {
+        self.offsets.clear();
+        let mut offset = newest;
+        let mut ending = Ending::At(length);
+        for _ in 0..MOST_REVISIONS {
+            let before = self.read_next(store, offset, ending)?;
+            self.offsets.push_reserved(offset);
+            let Some(place) = before else {
+                return Ok(());
+            };
+            ending = Ending::By(offset);
+            offset = place;
+        }
+        Err(Fault::met(Reason::FileBound, Layer::Chain, 0))
+    }
 }

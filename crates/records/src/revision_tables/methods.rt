@@ -1,15 +1,12 @@
 // The calls of the tables.
-ghost use Rattle.std.specs.Prelude.{◌≡◌, ◌+◌, ◌<◌, ◌≤◌, true, [], ◌∷◌, ◌++◌, length, take, IfOk, ◌==◌};
-ghost use Rattle.format.specs.Revisions.{covered};
-ghost use Rattle.entries.specs.Rows.{rows_of};
-ghost use Rattle.records.specs.Laid.{cells_with, laid};
+ghost use Rattle.std.specs.Prelude.{◌≡◌, ◌+◌, ◌<◌, ◌≤◌, [], ◌∷◌, ◌++◌, length, take, IfOk, ◌==◌};
+ghost use Rattle.records.specs.Laid.{Covers, laid};
 ghost use Rattle.records.specs.Tabled.{Tabled, cells_held, held_as, last_first, newest_cells, revisions_held};
 
 use super::{MOST_CELLS, MOST_REVISIONS, Tables};
 use crate::link::Link;
 use crate::table::lay;
 use entries::cell::Cell;
-use entries::entry::Row;
 use entries::revision::Revision;
 use std::alloc::{AllocError, Global};
 
@@ -91,20 +88,19 @@ impl Tables {
         &self.cells()[self.newest_start()..self.cells.len()]
     }
 
-    // A table more: of a revision of that Size whose section lists these rows, for which these cells were read.
-    pub(crate) fn push(&mut self, link: Link, size: usize, rows: &[Row], fresh: &[Cell])
+    // A table more: of a revision of that Size whose section lists these cells.
+    pub(crate) fn push(&mut self, link: Link, size: usize, listed: &[(u64, Cell)])
         requires few { length (revisions_held self.old) < 64 }
         requires tabled { Tabled (revisions_held self.old) (cells_held self.old) }
         requires small { size ≤ 1000 }
-        requires paired { length fresh.now ≡ length rows.now }
-        requires covered { covered size 0 (rows_of rows.now) (length (newest_cells (revisions_held self.old) (cells_held self.old))) ≡ true }
+        requires covered { Covers size listed.now (length (newest_cells (revisions_held self.old) (cells_held self.old))) }
         ensures revisions { revisions_held self.new ≡ revisions_held self.old ++ held_as link size (length (cells_held self.old)) ∷ [] }
-        ensures cells { cells_held self.new ≡ cells_held self.old ++ laid size 0 (cells_with rows.now fresh.now) (newest_cells (revisions_held self.old) (cells_held self.old)) }
+        ensures cells { cells_held self.new ≡ cells_held self.old ++ laid size 0 listed.now (newest_cells (revisions_held self.old) (cells_held self.old)) }
         ensures len { length (cells_held self.new) ≡ length (cells_held self.old) + size }
     {
         let before = self.newest_start();
         let first = self.cells.len();
-        lay(&mut self.cells, before, size, rows, fresh);
+        lay(&mut self.cells, before, size, listed);
         self.revisions.push_reserved(Revision {
             offset: link.offset,
             end: link.end,

@@ -12,12 +12,12 @@ impl Scratch {
     pub fn new(heap: Global) -> Result<Scratch, AllocError> {
         let window = Window::new(heap)?;
         let rows = Rows::new(heap)?;
-        let cells = Vec::with_capacity(heap, MOST_ROWS)?;
+        let listed = Vec::with_capacity(heap, MOST_ROWS)?;
         let offsets = Vec::with_capacity(heap, MOST_REVISIONS)?;
         Ok(Scratch {
             window,
             rows,
-            cells,
+            listed,
             offsets,
         })
     }

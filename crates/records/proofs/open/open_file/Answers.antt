@@ -22,36 +22,36 @@ returns-then-not-has_header g c = record {
   is = open_headless (g.S.Store.meaning c.args.store.now).bytes (omega arith) (sym c.if-not-has_header.ensures) ∙ ap Err (sym c.met-then-not-has_header.ensures);
 }
 
-pub returns-in-None : goal.returns-in-None
-returns-in-None g c = record {
+pub returns-in_default : goal.returns-in_default
+returns-in_default g c = record {
   tabled = tabled_none (vec_items c.clear.new.self.revisions) (vec_items c.clear.new.self.cells) c.clear.ensures.revisions c.clear.ensures.cells;
-  is = open_tailless (g.S.Store.meaning c.args.store.now).bytes (omega arith) (sym c.if-not-has_header.ensures) c.in-None.ensures
-      ∙ ap (λ n. Err (chain_fault NoTail n 0)) (sym c.len-length.ensures) ∙ ap Err (sym c.met-in-None.ensures);
+  is = open_tailless (g.S.Store.meaning c.args.store.now).bytes (omega arith) (sym c.if-not-has_header.ensures) (sym c.in_default.is ∙ c.newest_offset.ensures)
+      ∙ ap (λ n. Err (chain_fault NoTail n 0)) (sym c.len-length.ensures) ∙ ap Err (sym c.met-in_default.ensures);
 }
 
-pub returns-in_err-walk-in-Some : goal.returns-in_err-walk-in-Some
-returns-in_err-walk-in-Some g c =
+pub returns-in_err-walk : goal.returns-in_err-walk
+returns-in_err-walk g c =
     let p = err_from_is_err_and c.from_residual.result c.from_residual.ensures.1 in
-    let z : c.from_residual.result ≡ Err c.in_err-walk-in-Some.field-0.0 = cc in
+    let z : c.from_residual.result ≡ Err c.in_err-walk.field-0.0 = cc in
     rw z (record {
       tabled = tabled_none (vec_items c.clear.new.self.revisions) (vec_items c.clear.new.self.cells) c.clear.ensures.revisions c.clear.ensures.cells;
-      is = open_unchained (g.S.Store.meaning c.args.store.now).bytes (omega arith) (sym c.if-not-has_header.ensures) c.in-Some.newest c.in-Some.ensures c.in_err-walk-in-Some.field-0.0 (ap (λ n. walk most_revisions (g.S.Store.meaning c.args.store.now).bytes c.in-Some.newest (may_end (At n)) []) (sym c.len-length.ensures) ∙ c.in_err-walk-in-Some.ensures.is);
+      is = open_unchained (g.S.Store.meaning c.args.store.now).bytes (omega arith) (sym c.if-not-has_header.ensures) c.in-Some.newest c.in-Some.ensures c.in_err-walk.field-0.0 (ap (λ n. walk most_revisions (g.S.Store.meaning c.args.store.now).bytes c.in-Some.newest (may_end (At n)) []) (sym c.len-length.ensures) ∙ c.in_err-walk.ensures.is);
     })
 
-pub returns-in_err-read_revisions-in-Some : goal.returns-in_err-read_revisions-in-Some
-returns-in_err-read_revisions-in-Some g c =
-    let p = err_from_is_err_and c.from_residual-in_err-read_revisions-in-Some.result c.from_residual-in_err-read_revisions-in-Some.ensures.1 in
-    let z : c.from_residual-in_err-read_revisions-in-Some.result ≡ Err c.in_err-read_revisions-in-Some.field-0.0 = cc in
-    let w = c.in_ok-walk-in-Some.ensures.is in
+pub returns-in_err-read_revisions : goal.returns-in_err-read_revisions
+returns-in_err-read_revisions g c =
+    let p = err_from_is_err_and c.from_residual-in_err-read_revisions.result c.from_residual-in_err-read_revisions.ensures.1 in
+    let z : c.from_residual-in_err-read_revisions.result ≡ Err c.in_err-read_revisions.field-0.0 = cc in
+    let w = c.in_ok-walk.ensures.is in
     rw z (record {
-      tabled = c.in_err-read_revisions-in-Some.ensures.tabled;
-      is = open_unread (g.S.Store.meaning c.args.store.now).bytes (omega arith) (sym c.if-not-has_header.ensures) c.in-Some.newest c.in-Some.ensures w.0 (ap (λ n. walk most_revisions (g.S.Store.meaning c.args.store.now).bytes c.in-Some.newest (may_end (At n)) []) (sym c.len-length.ensures) ∙ w.1) c.in_err-read_revisions-in-Some.field-0.0 (c.in_err-read_revisions-in-Some.ensures.is w.0 w.2);
+      tabled = c.in_err-read_revisions.ensures.tabled;
+      is = open_unread (g.S.Store.meaning c.args.store.now).bytes (omega arith) (sym c.if-not-has_header.ensures) c.in-Some.newest c.in-Some.ensures w.0 (ap (λ n. walk most_revisions (g.S.Store.meaning c.args.store.now).bytes c.in-Some.newest (may_end (At n)) []) (sym c.len-length.ensures) ∙ w.1) c.in_err-read_revisions.field-0.0 (c.in_err-read_revisions.ensures.is w.0 w.2);
     })
 
-pub returns-in_ok-read_revisions-in-Some : goal.returns-in_ok-read_revisions-in-Some
-returns-in_ok-read_revisions-in-Some g c =
-    let w = c.in_ok-walk-in-Some.ensures.is in
+pub returns : goal.returns
+returns g c =
+    let w = c.in_ok-walk.ensures.is in
     record {
-      tabled = c.in_ok-read_revisions-in-Some.ensures.tabled;
-      is = open_read (g.S.Store.meaning c.args.store.now).bytes (omega arith) (sym c.if-not-has_header.ensures) c.in-Some.newest c.in-Some.ensures w.0 (ap (λ n. walk most_revisions (g.S.Store.meaning c.args.store.now).bytes c.in-Some.newest (may_end (At n)) []) (sym c.len-length.ensures) ∙ w.1) c.len.result (vec_items c.read_revisions.new.tables.revisions) (vec_items c.read_revisions.new.tables.cells) c.len.ensures (c.in_ok-read_revisions-in-Some.ensures.is w.0 w.2);
+      tabled = c.in_ok-read_revisions.ensures.tabled;
+      is = open_read (g.S.Store.meaning c.args.store.now).bytes (omega arith) (sym c.if-not-has_header.ensures) c.in-Some.newest c.in-Some.ensures w.0 (ap (λ n. walk most_revisions (g.S.Store.meaning c.args.store.now).bytes c.in-Some.newest (may_end (At n)) []) (sym c.len-length.ensures) ∙ w.1) c.len.result (vec_items c.read_revisions.new.tables.revisions) (vec_items c.read_revisions.new.tables.cells) c.len.ensures (c.in_ok-read_revisions.ensures.is w.0 w.2);
     }

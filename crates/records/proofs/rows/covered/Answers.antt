@@ -1,23 +1,11 @@
-use Rattle.std.proofs.Common.{sym, ◌∙◌, arith}
-use Rattle.records.proofs.Listings.{covered_on, covered_on_listed, covered_missing, covered_end, place_of_none, place_of_some}
+use Rattle.std.proofs.Common.{◌-◌, is_some, ◌∙◌, refl, rules, tests}
+use Rattle.std.proofs.lemmas.Iterator.{YieldsList-from_range}
+use Rattle.std.proofs.lemmas.Iterator.Search.{all_from_yields_List}
+use Rattle.records.specs.Listing.{numbers_of, place_from}
+use Rattle.records.proofs.Listings.{covered_all}
 use Rattle.records.proofs.rows.covered.Goals as goal
-use Rattle.records.proofs.rows.covered.Goals.{else-n-old-via-then-n-old+else-is_none, else-n-old-via-else-n-old}
-
-pub returns-then-is_none : goal.returns-then-is_none
-returns-then-is_none c =
-    sym (covered_missing c.args.size c.loop-n.n c.args.rows.now c.args.old (omega arith) (omega arith)
-    (place_of_none c.args.rows.now c.loop-n.n _ c.find_row.ensures.is _ c.is_none.ensures c.if-is_none.true))
-    ∙ c.loop-n.invariant
-
-pub loop-n-preserved : goal.loop-n-preserved
-loop-n-preserved c =
-    elim c.else-n-old.branch [
-      | else-n-old-via-then-n-old+else-is_none w ↦
-          sym (covered_on_listed c.args.size c.loop-n.n c.args.rows.now c.args.old (omega arith)
-          (place_of_some c.args.rows.now c.loop-n.n _ w.find_row.ensures.is _ w.is_none.ensures w.if-is_none.false))
-          ∙ c.loop-n.invariant
-      | else-n-old-via-else-n-old w ↦ sym (covered_on c.args.size c.loop-n.n c.args.rows.now c.args.old (omega arith) w.if-n-old.false) ∙ c.loop-n.invariant
-    ]
 
 pub returns : goal.returns
-returns c = sym (covered_end c.args.size c.loop-n.n c.args.rows.now c.args.old (omega arith)) ∙ c.loop-n.invariant
+returns c =
+    all_from_yields_List (λ n. is_some (place_from 0 n (numbers_of c.args.rows.now))) _ _ _ c.all.ensures.ran (YieldsList-from_range c.args.old c.args.size (c.args.size - c.args.old) (cc) refl) (λ x b q k. search (rules, tests))
+    ∙ covered_all c.args.size c.args.rows.now c.args.old

@@ -1,22 +1,22 @@
-use Rattle.std.proofs.Common.{Err, sym, ap, ◌∙◌, w64}
-use Rattle.std.proofs.lemmas.Int.{to_z-of_z}
-use Rattle.format.specs.Revisions.{slots_fit}
-use Rattle.entries.specs.Rows.{rows_of}
-use Rattle.records.proofs.Listings.{slots_past, slots_broken, slots_end}
+use Rattle.std.proofs.Common.{◌≡◌, not, Bor, Some, None, Err, sym, ap, ◌∙◌, rules, tests}
+use Rattle.std.proofs.lemmas.Iterator.{YieldsList-from_slice}
+use Rattle.std.proofs.lemmas.Iterator.Search.{find_from_yields_List}
+use Rattle.std.specs.List.{find}
+use Rattle.std.specs.Option.{option_map}
+use Rattle.format.specs.Revisions.{slot_fits}
+use Rattle.entries.specs.declared.entry.Row.{Row}
+use Rattle.entries.specs.Rows.{slot_of}
+use Rattle.records.proofs.Listings.{answer_of, slots_found}
 use Rattle.records.proofs.rows.slots_fit.Goals as goal
 
-pub returns-then-not-entry_fits : goal.returns-then-not-entry_fits
-returns-then-not-entry_fits c =
-    ap Err c.broken_rule.ensures
-    ∙ sym (slots_broken c.args.rows.now c.loop-row.row-index _ c.loop-row-test.true c.args.offset _ (sym c.if-not-entry_fits.ensures))
-    ∙ c.loop-row.invariant
-    ∙ ap (λ z. slots_fit c.args.offset z (rows_of c.args.rows.now)) (to_z-of_z w64 c.args.size c.ranges.size)
+pub returns-in-None : goal.returns-in-None
+returns-in-None c =
+    let f = find_from_yields_List (λ (r : Row). not (slot_fits c.args.offset c.args.size r.number (slot_of r.entry))) _ _ c.find.result c.find.ensures.ran (YieldsList-from_slice c.args.rows.now cc) (λ x b q k. search (rules, tests)) in
+    let z : find (λ (r : Row). not (slot_fits c.args.offset c.args.size r.number (slot_of r.entry))) c.args.rows.now ≡ None = sym f ∙ ap (option_map (λ (x : Bor Row). x.now)) c.in-None.is in
+    sym (slots_found c.args.offset c.args.size c.args.rows.now ∙ ap (answer_of c.args.offset) z)
 
-pub loop-row-preserved : goal.loop-row-preserved
-loop-row-preserved c = sym (slots_past c.args.rows.now c.loop-row.row-index _ c.loop-row-test.true c.args.offset _ (sym c.if-not-entry_fits.ensures)) ∙ c.loop-row.invariant
-
-pub returns : goal.returns
-returns c =
-    sym (slots_end c.args.rows.now c.loop-row.row-index c.loop-row-test.false _ _)
-    ∙ c.loop-row.invariant
-    ∙ ap (λ z. slots_fit c.args.offset z (rows_of c.args.rows.now)) (to_z-of_z w64 c.args.size c.ranges.size)
+pub returns-in-Some : goal.returns-in-Some
+returns-in-Some c =
+    let f = find_from_yields_List (λ (r : Row). not (slot_fits c.args.offset c.args.size r.number (slot_of r.entry))) _ _ c.find.result c.find.ensures.ran (YieldsList-from_slice c.args.rows.now cc) (λ x b q k. search (rules, tests)) in
+    let z : find (λ (r : Row). not (slot_fits c.args.offset c.args.size r.number (slot_of r.entry))) c.args.rows.now ≡ Some c.in-Some.row.now = sym f ∙ ap (option_map (λ (x : Bor Row). x.now)) c.in-Some.is in
+    ap Err c.broken_rule.ensures ∙ sym (slots_found c.args.offset c.args.size c.args.rows.now ∙ ap (answer_of c.args.offset) z)

@@ -1,11 +1,10 @@
-use Rattle.std.proofs.Common.{ap, ◌∙◌, w64}
+use Rattle.std.proofs.Common.{rules, w64, to_z, of_z}
 use Rattle.std.proofs.lemmas.Int.{to_z-of_z}
-use Rattle.format.specs.Revisions.{under_size}
-use Rattle.records.proofs.Listings.{under_in, under_out}
+use Rattle.std.proofs.lemmas.Result.{MatchResult-weaker}
+use Rattle.records.proofs.Listings.{under_told}
 use Rattle.records.proofs.rows.under_size.Goals as goal
 
-pub returns-then-size-ge0 : goal.returns-then-size-ge0
-returns-then-size-ge0 c = under_in c.args.n _ c.if-size-ge0.true ∙ ap (under_size c.args.n) (to_z-of_z w64 c.args.size c.ranges.size)
-
-pub returns-else-size-ge0 : goal.returns-else-size-ge0
-returns-else-size-ge0 c = under_out c.args.n _ c.if-size-ge0.false ∙ ap (under_size c.args.n) (to_z-of_z w64 c.args.size c.ranges.size)
+pub returns : goal.returns
+returns c =
+    under_told c.args.n c.args.size (to_z w64 (of_z w64 c.args.size)) c.try_from.result c.is_ok_and.result c.ranges.size (to_z-of_z w64 c.args.size c.ranges.size) c.try_from.ensures
+    (MatchResult-weaker c.try_from.result c.is_ok_and.ensures (λ k p. search rules) (λ d p. p))

@@ -3,14 +3,14 @@ use Rattle.records.specs.Tabled.{last_first}
 use Rattle.records.proofs.Tabling.{last_within, last_none, last_read}
 use Rattle.records.proofs.revision_tables.Tables.newest_start.Goals as goal
 
-pub returns-in-None : goal.returns-in-None
-returns-in-None c =
+pub returns-in-None-clause-is : goal.returns-in-None-clause-is
+returns-in-None-clause-is c =
     let cells = vec_items c.args.self.now.cells in
     let revisions = vec_items c.args.self.now.revisions in
     let long = c.args.self.now.cells.ok.0 in
     let same = ap length c.revisions.ensures in
     let none : last_first (length cells) revisions ≡ length cells = last_none (length cells) revisions (omega (arith, c.in-None.ensures.item.3)) in
-    record { is = omega (arith, long); within = omega (arith, long); small = omega (arith, long) }
+    omega (arith, long)
 
 pub returns-in-Some : goal.returns-in-Some
 returns-in-Some c =
