@@ -2,13 +2,14 @@
 use Rattle.std.proofs.Common.{◌≡◌, ℕ, ◌+◌, ◌<◌, ◌≤◌, false, List, [], ◌∷◌, ◌++◌, length, Ok, Err, Result, sym, refl, ap, ◌∙◌, subst, arith, length-append}
 use Rattle.faults.specs.declared.fault.Fault.{Fault}
 use Rattle.stores.specs.Meanings.{Meaning, Joined, Appends}
+use Rattle.stores.specs.declared.store.Store.{Ghosts}
 use Rattle.chains.proofs.Added.{limits_parts}
 use Rattle.chains.proofs.Openings.{history_opened, newest_opened}
 use Rattle.chains.proofs.Steps.{never_answer, never_reading, answered}
 use Rattle.entries.specs.declared.cell.Cell.{Cell}
 use Rattle.entries.specs.declared.revision.Revision as code
 use Rattle.entries.specs.Tables.{TablesOf}
-use Rattle.format.specs.Book.{Moment, Call, commit, standing, updating, blank, newest_or, newest, addition, decide_commit, Step}
+use Rattle.format.specs.Book.{Call, commit, standing, updating, blank, newest_or, newest, addition, decide_commit, Step}
 use Rattle.format.specs.Bytes.{Bytes, bad}
 use Rattle.format.specs.Chain.{Answer, also, section_in}
 use Rattle.format.specs.Revisions.{Revision, revision, Opened, opens}
@@ -29,9 +30,11 @@ use Rattle.writer.specs.Trailers.{ReadAs}
 use Rattle.writer.specs.Writers.{bytes_of}
 use Rattle.bounds.proofs.Bounded.{bounded}
 use Rattle.book.specs.declared.book.Book.{Book}
+use Rattle.book.specs.declared.book.Memory.{Memory}
 use Rattle.book.specs.declared.call.Phase.TheVariants.{Standing, Updating}
-use Rattle.book.specs.Books.{update_in, moment_of, revisions_in, cells_in, Sound, Performs}
+use Rattle.book.specs.Books.{update_in, moment_of, revisions_in, cells_in, Performs}
 use Rattle.book.specs.Calls.{phase_of}
+use Rattle.book.specs.Keeps.{SoundOf}
 use Rattle.book.specs.Drafted.{Drafted, Drafts}
 use Rattle.book.proofs.Performed.{performs_at, updating_sound, updating_phase}
 use Rattle.book.proofs.Steps.{at, commit_step}
@@ -47,20 +50,15 @@ newest_trailer file off seen inside n e t =
     subst (λ es. ReadAs seen inside es) (ap (λ x. x.trailer) s ∙ n.trailer) (t.closes, t.behind, t.trailer)
 
 -- laying down leaves what the book shows
-module _ {S : Type 0} (meaning : S → Meaning) (b b' : Book S) (objects : ℕ) (d : Drafts meaning b objects b') where
+module _ {S : Type 0} {g : Ghosts S} (meaning : S → Meaning) (b b' : Book S g) (objects : ℕ) (d : Drafts meaning b objects b') where
   pub drafted_moment : moment_of meaning b' ≡ moment_of meaning b
   drafted_moment =
       ap (λ s. at (meaning s) (phase_of b'.phase (update_in b'))) d.store
       ∙ ap (λ p. at (meaning b.store) (phase_of p (update_in b'))) d.phase
       ∙ ap (λ h. at (meaning b.store) (phase_of b.phase (update_of h))) d.held
 
-  pub drafted_sound : Sound meaning b → Sound meaning b'
-  drafted_sound s =
-      subst (λ t. SoundIn (moment_of meaning b').phase (moment_of meaning b').store.bytes (revisions_held t) (cells_held t)) (sym d.tables)
-      (subst (λ (m : Moment). SoundIn m.phase m.store.bytes (revisions_in b) (cells_in b)) (sym drafted_moment) s)
-
   -- what the book does after the laying down, it does from the moment before
-  pub from_before : (c : Call) (a : Answer (Unit {0})) (b'' : Book S) → Performs meaning b' c a b'' → Performs meaning b c a b''
+  pub from_before : (c : Call) (a : Answer (Unit {0})) (b'' : Book S g) → Performs meaning b' c a b'' → Performs meaning b c a b''
   from_before c a b'' p = record { step = subst (λ m. Step m c a (moment_of meaning b'')) drafted_moment p.step; sound = p.sound }
 
 -- the section that was written makes the next revision
@@ -93,16 +91,16 @@ revised_made file h off (Ok x) rs cs made e (new, n, p, t) = subst (λ v. Tables
 revised_made file h off (Err f) rs cs made e n = never_answer (sym n ∙ e)
 
 -- what is known where a commit was accepted
-module _ {S : Type 0} (meaning : S → Meaning) (b : Book S) (sound : Sound meaning b) (now-updating : b.phase ≡ Updating) (objects : ℕ) (d : Drafted meaning b objects)
-    (accepted : decide_commit (meaning b.store) (update_in b) ≡ Ok tt) where
+module _ {S : Type 0} {g : Ghosts S} (b : Book S g) (now-updating : b.phase ≡ Updating) (objects : ℕ) (d : Drafted g.meaning b objects)
+    (accepted : decide_commit (g.meaning b.store) (update_in b) ≡ Ok tt) where
   abbrev s : Meaning
-  s = meaning b.store
+  s = g.meaning b.store
 
   abbrev u : Update
   u = update_in b
 
   st : SoundIn (updating u) s.bytes (revisions_in b) (cells_in b)
-  st = updating_sound meaning b sound now-updating
+  st = updating_sound g.meaning b b.sound now-updating
 
   objects_fit : objects ≤ length (addition s.bytes u)
   unfolding addition update_bytes
@@ -117,19 +115,22 @@ module _ {S : Type 0} (meaning : S → Meaning) (b : Book S) (sound : Sound mean
   pub rows_tabled : Tabled (revisions_in b) (cells_in b)
   rows_tabled = (bounded s.bytes (revisions_in b) (cells_in b) st.0).tabled
 
-  pub committed : (b' : Book S) (a r : Result (Unit {0}) Fault) →
-      Appends s (bytes_of b.memory.writer) a (meaning b'.store) →
-      ((h : List Revision) → TablesOf (meaning b'.store).bytes h (revisions_in b) (cells_in b) → (newest_or blank h).offset ≤ length s.bytes + objects →
-      Revised (meaning b'.store).bytes h (length s.bytes + objects) r (revisions_in b') (cells_in b')) →
-      b'.phase ≡ Standing →
-      Performs meaning b (commit false) (Ok tt) b'
-  committed b' a r joins read e =
-      let t = meaning b'.store in
-      let o = st.0.opened in
-      let fits = commits_fit s u accepted in
+  joined : (s' : S) (a : Result (Unit {0}) Fault) → Appends s (bytes_of b.memory.writer) a (g.meaning s') → Joined s (addition s.bytes u) (g.meaning s')
+  joined s' a joins =
       let long = ap length d.bytes in
-      let j = subst (λ more. Joined s more t) d.bytes (append_done s t (bytes_of b.memory.writer) a (omega (arith, long, fits.space)) joins) in
-      let w = commits_read s.bytes o u st.0.accepted st.1 fits.limits in
+      subst (λ more. Joined s more (g.meaning s')) d.bytes (append_done s (g.meaning s') (bytes_of b.memory.writer) a (omega (arith, long, (commits_fit s u accepted).space)) joins)
+
+  -- the store that was added to and the tables that were read back are those of a standing book
+  pub committed_sound : (s' : S) (h' : Memory) (a r : Result (Unit {0}) Fault) →
+      Appends s (bytes_of b.memory.writer) a (g.meaning s') →
+      ((h : List Revision) → TablesOf (g.meaning s').bytes h (revisions_in b) (cells_in b) → (newest_or blank h).offset ≤ length s.bytes + objects →
+      Revised (g.meaning s').bytes h (length s.bytes + objects) r (revisions_held h'.tables) (cells_held h'.tables)) →
+      SoundOf g.meaning s' Standing h'
+  committed_sound s' h' a r joins read =
+      let t = g.meaning s' in
+      let o = st.0.opened in
+      let j = joined s' a joins in
+      let w = commits_read s.bytes o u st.0.accepted st.1 (commits_fit s u accepted).limits in
       let grown = tables_grow s.bytes (addition s.bytes u) o.history (revisions_in b) (cells_in b) st.0.tables (sections_start s.bytes o (revisions_in b) (cells_in b) st.0.accepted st.0.tables) in
       let known = bounded s.bytes (revisions_in b) (cells_in b) st.0 in
       let newest-at = ap (λ (v : Revision). v.offset) (newest_opened s.bytes o st.0.accepted) in
@@ -140,7 +141,10 @@ module _ {S : Type 0} (meaning : S → Meaning) (b : Book S) (sound : Sound mean
       ∙ ap (next_revision (s.bytes ++ addition s.bytes u) o.history) (sym place)
       ∙ next_made s.bytes o u w st.0.accepted some in
       let revised = read o.history (subst (λ f. TablesOf f o.history (revisions_in b) (cells_in b)) (sym j.bytes) grown) (omega (arith, known.offset, newest-at)) in
-      let after = revised_made t.bytes o.history (length s.bytes + objects) r (revisions_in b') (cells_in b') w.made made revised in
-      performs_at meaning b b' (commit false) (Ok tt) (updating u) standing (updating_phase meaning b sound now-updating) (ap (λ p. phase_of p (update_in b')) e)
-      (commit_step s t u accepted j)
-      (sound_stays.opening t.bytes (record { header = o.header; history = o.history ++ (w.made ∷ []) }) (revisions_in b') (cells_in b') (ap opens j.bytes ∙ w.is.accepted) after)
+      let after = revised_made t.bytes o.history (length s.bytes + objects) r (revisions_held h'.tables) (cells_held h'.tables) w.made made revised in
+      sound_stays.opening t.bytes (record { header = o.header; history = o.history ++ (w.made ∷ []) }) (revisions_held h'.tables) (cells_held h'.tables) (ap opens j.bytes ∙ w.is.accepted) after
+
+  pub committed : (b' : Book S g) (a : Result (Unit {0}) Fault) → Appends s (bytes_of b.memory.writer) a (g.meaning b'.store) → b'.phase ≡ Standing → Performs g.meaning b (commit false) (Ok tt) b'
+  committed b' a joins e =
+      performs_at b b' (commit false) (Ok tt) (updating u) standing (updating_phase g.meaning b b.sound now-updating) (ap (λ p. phase_of p (update_in b')) e)
+      (commit_step s (g.meaning b'.store) u accepted (joined b'.store a joins))

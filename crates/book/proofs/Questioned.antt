@@ -23,6 +23,7 @@ use Rattle.keeping.specs.Telling.{NoRow, CellAt}
 use Rattle.keeping.proofs.Asked.{fetch_cells}
 use Rattle.keeping.proofs.Told.{tables_tell}
 use Rattle.stores.specs.Meanings.{Meaning}
+use Rattle.stores.specs.declared.store.Store.{Ghosts}
 use Rattle.book.specs.declared.book.Book.{Book}
 use Rattle.book.specs.declared.call.Phase.TheVariants.{Standing}
 use Rattle.book.specs.Calls.{phase_of}
@@ -76,7 +77,7 @@ stands shut file rs cs s h = let z : ◌≡◌ {A = ℕ} 0 1 = cc in absurd (ome
 stands standing file rs cs s h = s
 stands (updating u) file rs cs s h = s.0
 
-pub open_book : {S : Type 0} (meaning : S → Meaning) (b : Book S) → Sound meaning b → is_shut (moment_of meaning b).phase ≡ false → OpenBook (moment_of meaning b) (revisions_in b) (cells_in b)
+pub open_book : {S : Type 0} {g : Ghosts S} (meaning : S → Meaning) (b : Book S g) → Sound meaning b → is_shut (moment_of meaning b).phase ≡ false → OpenBook (moment_of meaning b) (revisions_in b) (cells_in b)
 open_book meaning b s h =
     let t = stands (moment_of meaning b).phase (meaning b.store).bytes (revisions_in b) (cells_in b) s h in
     record { unshut = h; opened = t.opened; accepted = t.accepted; tables = t.tables }
@@ -113,6 +114,6 @@ fetched m rs cs k n room g s e q b a f l =
     (fetch_cells m rs cs k n room b).cell q (Used g s e) a f ∙ ap (λ z. must z (refused ShortBuffer n) (λ _. Ok (g, part m.store.bytes s e))) t
 
 -- the same of a standing book
-pub row_held : {S : Type 0} (meaning : S → Meaning) (b : Book S) (k : ℕ) (q : Revision) → Sound meaning b → b.phase ≡ Standing → RowAt (revisions_in b) k q → q.first + q.size ≤ length (cells_in b)
+pub row_held : {S : Type 0} {g : Ghosts S} (meaning : S → Meaning) (b : Book S g) (k : ℕ) (q : Revision) → Sound meaning b → b.phase ≡ Standing → RowAt (revisions_in b) k q → q.first + q.size ≤ length (cells_in b)
 unfolding is_shut
 row_held meaning b k q s e a = row_within (moment_of meaning b) (revisions_in b) (cells_in b) k q (open_book meaning b s (ap (λ p. is_shut (phase_of p (update_in b))) e)) a

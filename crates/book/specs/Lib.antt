@@ -2,6 +2,8 @@ pub mod Slips
 pub mod Calls
 pub mod Copies
 pub mod Rows
+pub mod Single
+pub mod Keeps
 pub mod Books
 pub mod Asked
 pub mod Drafted

@@ -1,4 +1,6 @@
 // The book.
+ghost use Rattle.book.specs.Keeps.{SoundOf, SoundOf-prop};
+
 use crate::call::Phase;
 use records::revision_tables::Tables;
 use records::scratch::Scratch;
@@ -26,9 +28,11 @@ pub struct Memory {
 }
 
 // A book is put round a store: it opens the record that lies there, answers questions about every revision, and changes the record by updates.
+// Its tables are those of its store's bytes, and an open update is acceptable on the newest revision: nothing is asked of a caller.
 #[derive(Drop)]
 pub struct Book<S: Store> {
     store: S,
     phase: Phase,
     memory: Memory,
+    pub ghost sound: { SoundOf S.Store.meaning store phase memory } by { SoundOf-prop S.Store.meaning store phase memory },
 }

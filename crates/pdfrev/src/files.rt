@@ -65,9 +65,12 @@ pub fn close(book: Book<Flat>) {
 }
 
 // Writes the file as it stood at revision k to a path where there is none, and answers its length.
-pub fn extract(rt: &HostRuntime, book: &Book<Flat>, k: usize, path: &str) -> Result<usize, Failure>
-    requires { Sound flat_meaning book.now }
-{
+pub fn extract(
+    rt: &HostRuntime,
+    book: &Book<Flat>,
+    k: usize,
+    path: &str,
+) -> Result<usize, Failure> {
     let end = book.list(k)?.end;
     let mut drawn = Flat::new(vec![in rt.alloc(); 0u8; end]?, 0);
     book.draw(k, &mut drawn)?;

@@ -1,6 +1,4 @@
 // What the short commands print.
-ghost use Rattle.book.specs.Books.{Sound};
-
 use crate::changes::write_changes;
 use crate::failure::Failure;
 use book::book::Book;
@@ -12,9 +10,7 @@ use stores::store::Store;
 // The most bytes that an object has.
 const OBJECT_BYTES: usize = 32_768;
 
-pub fn accepted<S: Store, W: Write>(book: &Book<S>, out: &mut W) -> Result<(), Failure>
-    requires { Sound S.Store.meaning book.now }
-{
+pub fn accepted<S: Store, W: Write>(book: &Book<S>, out: &mut W) -> Result<(), Failure> {
     let count = book.revisions()?;
     if count == 1 {
         writeln!(out, "accepted: 1 revision")?;
@@ -31,9 +27,7 @@ pub fn show<S: Store, W: Write>(
     k: usize,
     n: usize,
     out: &mut W,
-) -> Result<u32, Failure>
-    requires { Sound S.Store.meaning book.now }
-{
+) -> Result<u32, Failure> {
     let mut body = vec![in heap; 0u8; OBJECT_BYTES]?;
     let (generation, length) = book.fetch(k, n, body.as_mut_slice())?;
     body.truncate(length);
@@ -47,9 +41,7 @@ pub fn diff<S: Store, W: Write>(
     j: usize,
     k: usize,
     out: &mut W,
-) -> Result<(), Failure>
-    requires { Sound S.Store.meaning book.now }
-{
+) -> Result<(), Failure> {
     let changes = differences(heap, book, j, k)?;
     if changes.is_empty() {
         out.write_all(b"nothing changed")?;

@@ -1,6 +1,4 @@
 // The table of the revisions.
-ghost use Rattle.book.specs.Books.{Sound};
-
 use crate::changes::write_changes;
 use crate::failure::Failure;
 use book::book::Book;
@@ -10,9 +8,7 @@ use std::io::Write;
 use stores::store::Store;
 
 // A line for each revision: its own bytes, where it ends, its Size, how many objects are in use, and what changed against the revision before.
-pub fn list<S: Store, W: Write>(heap: Global, book: &Book<S>, out: &mut W) -> Result<(), Failure>
-    requires { Sound S.Store.meaning book.now }
-{
+pub fn list<S: Store, W: Write>(heap: Global, book: &Book<S>, out: &mut W) -> Result<(), Failure> {
     out.write_all(b"revision  own bytes  ends at  Size  in use  objects\n")?;
     let count = book.revisions()?;
     let mut start = 0;

@@ -1,6 +1,6 @@
 // What changed between two revisions.
 ghost use Rattle.std.specs.Prelude.{◌≡◌, IfOk};
-ghost use Rattle.book.specs.Books.{Sound, moment_of};
+ghost use Rattle.book.specs.Books.{moment_of};
 ghost use Rattle.reports.specs.Differences.{Differs, numbers_of, same_kind};
 
 use crate::trouble::Trouble;
@@ -23,7 +23,6 @@ pub fn differences<S: Store>(
     j: usize,
     k: usize,
 ) -> Result<Vec<Change>, Trouble>
-    requires { Sound S.Store.meaning book.now }
     ensures { Differs (moment_of S.Store.meaning book.now) j k result }
 {
     let earlier = book.list(j)?;

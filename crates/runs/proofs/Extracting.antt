@@ -2,6 +2,7 @@
 use Rattle.std.proofs.Common.{◌≡◌, ℕ, ◌≤◌, List, [], ◌∷◌, ◌++◌, length, Ok, Err, sym, refl, ap, ◌∙◌, subst, arith}
 use Rattle.faults.specs.declared.fault.Fault.{Fault}
 use Rattle.stores.specs.Meanings.{Meaning}
+use Rattle.stores.specs.declared.store.Store.{Ghosts}
 use Rattle.format.specs.Book.{shut, Moment, open_file, bytes_after, Step}
 use Rattle.format.specs.Chain.{Answer}
 use Rattle.format.specs.Law.{shut_over}
@@ -16,7 +17,7 @@ pub none_left : {A : Type 0} (xs : List A) → length xs ≤ 0 → xs ≡ []
 none_left [] h = refl
 none_left (x ∷ xs) h = absurd (omega arith)
 
-module _ {S T : Type 0} (f : S → Meaning) (g : T → Meaning) (b : Book S) (k : ℕ) (out x : T) (u : Unit {0}) (empty : (g out).bytes ≡ []) (d : Draws (moment_of f b) k (g out) (Ok u) (g x)) (n : Book T) (e : store_in n ≡ x) (new : (moment_of g n).phase ≡ shut) where
+module _ {S T : Type 0} {v : Ghosts S} {w : Ghosts T} (f : S → Meaning) (g : T → Meaning) (b : Book S v) (k : ℕ) (out x : T) (u : Unit {0}) (empty : (g out).bytes ≡ []) (d : Draws (moment_of f b) k (g out) (Ok u) (g x)) (n : Book T w) (e : store_in n ≡ x) (new : (moment_of g n).phase ≡ shut) where
   -- the new book is shut over the bytes that were drawn
   shut_over_fact : (a : Answer (Unit {0})) (n' : Moment) → Step (moment_of g n) open_file a n' → Step (shut_over d.0 (g (store_in n)).space) open_file a n'
   shut_over_fact a n' s =
@@ -24,12 +25,12 @@ module _ {S T : Type 0} (f : S → Meaning) (g : T → Meaning) (b : Book S) (k 
       let at : moment_of g n ≡ shut_over d.0 (g (store_in n)).space = λ i. record { store = record { bytes = bytes i; space = (g (store_in n)).space }; phase = new i } in
       subst (λ m. Step m open_file a n') at s
 
-  pub extract_opened : (n' : Book T) → Performs g n open_file (Ok tt) n' → Extracts f g b k out (Opened n')
+  pub extract_opened : (n' : Book T w) → Performs g n open_file (Ok tt) n' → Extracts f g b k out (Opened n')
   unfolding bytes_after
   extract_opened n' p =
       let s = shut_over_fact (Ok tt) (moment_of g n') p.step in
       (empty, d.1 ∙ ap Ok (sym s.leaves.bytes), p.sound, alone (moment_of f b) (moment_of g n') k (g out).space (g (store_in n)).space d.0 d.1 s)
 
-  pub extract_opens : (n' : Book T) (z : Fault) → Performs g n open_file (Err z) n' → ⊥
+  pub extract_opens : (n' : Book T w) (z : Fault) → Performs g n open_file (Err z) n' → ⊥
   extract_opens n' z p =
       opens_alone (moment_of f b) (moment_of g n') k (g out).space (g (store_in n)).space d.0 z d.1 (shut_over_fact (Err z) (moment_of g n') p.step)

@@ -1,6 +1,7 @@
 -- A call that the book performed, with the slip that is held then.
 use Rattle.std.proofs.Common.{◌≡◌, ℕ, Bool, true, false, not, Ok, sym, ap, ◌∙◌, subst}
 use Rattle.stores.specs.Meanings.{Meaning}
+use Rattle.stores.specs.declared.store.Store.{Ghosts}
 use Rattle.format.specs.Book.{Moment, Call, open_file, begin, put, remove, commit, abandon, back, Step, spent_after}
 use Rattle.format.specs.Bytes.{Bytes}
 use Rattle.format.specs.Chain.{Answer}
@@ -11,7 +12,7 @@ use Rattle.book.specs.Slips.{is_spent}
 use Rattle.runs.specs.Made.{Tied, Makes}
 use Rattle.runs.proofs.Ties.{tie_after, tie_spent_commit, tie_spent_abandon, tie_open, tie_put, tie_remove, tie_back, tie_commit, tie_abandon, put_held, remove_held, commit_held, abandon_held}
 
-module _ {S : Type 0} (meaning : S → Meaning) (b b' : Book S) (a : Answer (Unit {0})) where
+module _ {S : Type 0} {g : Ghosts S} (meaning : S → Meaning) (b b' : Book S g) (a : Answer (Unit {0})) where
   abbrev m : Moment
   m = moment_of meaning b
 
@@ -78,7 +79,7 @@ module _ {S : Type 0} (meaning : S → Meaning) (b b' : Book S) (a : Answer (Uni
     }
 
 -- the slip that was handed out is held from then on
-pub begin_made : {S : Type 0} (meaning : S → Meaning) (b b' : Book S) (s s' : Slip) → Tied meaning b s → is_spent s' ≡ false → Performs meaning b begin (Ok tt) b' → Makes meaning b begin (Ok tt) b' s'
+pub begin_made : {S : Type 0} {g : Ghosts S} (meaning : S → Meaning) (b b' : Book S g) (s s' : Slip) → Tied meaning b s → is_spent s' ≡ false → Performs meaning b begin (Ok tt) b' → Makes meaning b begin (Ok tt) b' s'
 begin_made meaning b b' s s' t e p = record {
   performs = p;
   tied = tie_after (moment_of meaning b) (moment_of meaning b') begin (Ok tt) (is_spent s) p.step t ∙ ap not (sym e);

@@ -3,6 +3,7 @@ use Rattle.std.proofs.Common.{◌≡◌, ℕ, ◌+◌, ◌<◌, true, not, List,
 use Rattle.std.proofs.lemmas.List.{length-map, get_or-map}
 use Rattle.faults.specs.declared.fault.Fault.{Fault}
 use Rattle.stores.specs.Meanings.{Meaning}
+use Rattle.stores.specs.declared.store.Store.{Ghosts}
 use Rattle.format.specs.Book as format
 use Rattle.format.specs.Book.{shut, Moment, open_file, decide, decide_open, Step}
 use Rattle.format.specs.Chain.{Answer}
@@ -37,9 +38,14 @@ run_none m cs answers e = subst (λ es. Run m es m) (sym (ap (events_of cs) e �
 pub one_more : {A : Type 0} (answers more : List A) (a : A) (i : ℕ) → length answers ≡ i → more ≡ answers ++ (a ∷ []) → length more ≡ i + 1
 one_more answers more a i n e = let h = length-append answers (a ∷ []) in ap length e ∙ h ∙ (omega (arith, n))
 
-module _ {S : Type 0} (meaning : S → Meaning) where
+opens_not : (a : Answer Opened) (f : Fault) → Err f ≡ decide_open a → a ≡ Err f
+unfolding decide_open
+opens_not (Ok o) f e = let z : ◌≡◌ {A = ℕ} 0 1 = cc in absurd (omega arith)
+opens_not (Err x) f e = cc
+
+module _ {S : Type 0} {g : Ghosts S} (meaning : S → Meaning) where
   -- one call more
-  pub run_more : (m : Moment) (calls : List Call) (answers more : List (Answer (Unit {0}))) (x y : Book S) (s : Slip) (d : Call) (a : Answer (Unit {0})) (i : ℕ) →
+  pub run_more : (m : Moment) (calls : List Call) (answers more : List (Answer (Unit {0}))) (x y : Book S g) (s : Slip) (d : Call) (a : Answer (Unit {0})) (i : ℕ) →
       length answers ≡ i → i < length calls → more ≡ answers ++ (a ∷ []) →
       Run m (events_of (map call_of calls) answers) (moment_of meaning x) →
       Makes meaning x (call_of (get_or calls i d)) a y s →
@@ -54,11 +60,11 @@ module _ {S : Type 0} (meaning : S → Meaning) where
       (runs_grow.more m (moment_of meaning x) (moment_of meaning y) (events_of cs answers) c a r w.performs.step)
 
   -- no update is open after an opening, and so a spent slip is held
-  pub opened_tied : (b b' : Book S) (s : Slip) → (moment_of meaning b).phase ≡ shut → is_spent s ≡ true → Performs meaning b open_file (Ok tt) b' → Tied meaning b' s
+  pub opened_tied : (b b' : Book S g) (s : Slip) → (moment_of meaning b).phase ≡ shut → is_spent s ≡ true → Performs meaning b open_file (Ok tt) b' → Tied meaning b' s
   opened_tied b b' s e h p = tie_open (moment_of meaning b) (moment_of meaning b') (Ok tt) true p.step (ap is_updating e) ∙ ap not (sym h)
 
   -- the opening first, then the calls
-  pub finished : (b x y : Book S) (calls : List Call) (answers : List (Answer (Unit {0}))) (s : Slip) → (moment_of meaning b).phase ≡ shut →
+  pub finished : (b x y : Book S g) (calls : List Call) (answers : List (Answer (Unit {0}))) (s : Slip) → (moment_of meaning b).phase ≡ shut →
       Performs meaning b open_file (Ok tt) x → MakesAll meaning x calls answers y s → Finished meaning (meaning (store_in b)) calls y s answers
   finished b x y calls answers s e p w =
       let was = meaning (store_in b) in
@@ -74,20 +80,15 @@ module _ {S : Type 0} (meaning : S → Meaning) where
         tied = w.tied;
       }
 
-  opens_not : (a : Answer Opened) (f : Fault) → Err f ≡ decide_open a → a ≡ Err f
-  unfolding decide_open
-  opens_not (Ok o) f e = let z : ◌≡◌ {A = ℕ} 0 1 = cc in absurd (omega arith)
-  opens_not (Err g) f e = cc
-
   -- an opening that was refused
-  pub unopened : (b b' : Book S) (f : Fault) (out : S) → (moment_of meaning b).phase ≡ shut → Performs meaning b open_file (Err f) b' → out ≡ store_in b' →
+  pub unopened : (b b' : Book S g) (f : Fault) (out : S) → (moment_of meaning b).phase ≡ shut → Performs meaning b open_file (Err f) b' → out ≡ store_in b' →
       (opens (meaning (store_in b)).bytes ≡ Err f) × (meaning out ≡ meaning (store_in b))
   unfolding decide
   unopened b b' f out e p h =
       (opens_not _ f (p.step.answer ∙ ap (λ q. decide (meaning (store_in b)) q open_file) e), ap meaning h ∙ ap (λ m. m.store) p.step.leaves)
 
 -- two lists of calls from the same bytes
-pub compared : {S T : Type 0} (f : S → Meaning) (g : T → Meaning) (first : S) (second : T) (cs ds : List Call) (w : Work S) (v : Work T) →
+pub compared : {S T : Type 0} {p : Ghosts S} {q : Ghosts T} (f : S → Meaning) (g : T → Meaning) (first : S) (second : T) (cs ds : List Call) (w : Work S p) (v : Work T q) →
     Worked f first cs w → Worked g second ds v → Compared f g first second cs ds w v
 compared f g first second cs ds (NoMemory s m) v p q = tt
 compared f g first second cs ds (Refused x s m) v p q = tt

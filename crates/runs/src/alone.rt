@@ -1,5 +1,4 @@
 // Revisions that are drawn out, opened alone.
-ghost use Rattle.book.specs.Books.{Sound};
 ghost use Rattle.runs.specs.Extracts.{Extracts};
 
 use book::book::{Book, Memory};
@@ -35,7 +34,6 @@ pub fn open_alone<S: Store, T: Store>(
     mut out: T,
     memory: Memory,
 ) -> Extract<T>
-    requires { Sound S.Store.meaning book.now }
     ensures { Extracts S.Store.meaning T.Store.meaning book.now k out result }
 {
     if out.len() > 0 {

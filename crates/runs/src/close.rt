@@ -1,6 +1,6 @@
 // Letting a book go after a list of calls.
 ghost use Rattle.std.specs.Prelude.{◌≡◌};
-ghost use Rattle.book.specs.Books.{Sound, store_in};
+ghost use Rattle.book.specs.Books.{store_in};
 ghost use Rattle.runs.specs.Made.{Tied};
 
 use book::book::{Book, Memory};
@@ -9,8 +9,7 @@ use stores::store::Store;
 
 // Takes the book apart. An update that is still open is abandoned first, so that its slip is spent; the store means what it meant.
 pub fn close<S: Store>(mut book: Book<S>, mut slip: Slip) -> (S, Memory)
-    requires sound { Sound S.Store.meaning book }
-    requires tied { Tied S.Store.meaning book slip }
+    requires { Tied S.Store.meaning book slip }
     ensures { S.Store.meaning result.0 ≡ S.Store.meaning (store_in book) }
 {
     if slip.is_spent() {

@@ -1,7 +1,6 @@
 // One call of a list. It is shown the slip held, or a spent one if it asks for that.
 ghost use Rattle.std.specs.Prelude.{◌≡◌};
 ghost use Rattle.format.specs.Book.{abandon, back, begin, commit, open_file, put, remove};
-ghost use Rattle.book.specs.Books.{Sound};
 ghost use Rattle.book.specs.Calls.{call_of};
 ghost use Rattle.runs.specs.Made.{Makes, Tied};
 
@@ -12,8 +11,7 @@ use faults::fault::Fault;
 use stores::store::Store;
 
 fn open_again<S: Store>(book: &mut Book<S>, slip: &Slip) -> Result<(), Fault>
-    requires sound { Sound S.Store.meaning book.old }
-    requires tied { Tied S.Store.meaning book.old slip.now }
+    requires { Tied S.Store.meaning book.old slip.now }
     ensures { Makes S.Store.meaning book.old open_file result book.new slip.now }
 {
     book.open()?;
@@ -22,8 +20,7 @@ fn open_again<S: Store>(book: &mut Book<S>, slip: &Slip) -> Result<(), Fault>
 
 // The slip that an accepted begin hands out is held from then on: the one before is spent.
 fn begin_update<S: Store>(book: &mut Book<S>, slip: &mut Slip) -> Result<(), Fault>
-    requires sound { Sound S.Store.meaning book.old }
-    requires tied { Tied S.Store.meaning book.old slip.old }
+    requires { Tied S.Store.meaning book.old slip.old }
     ensures { Makes S.Store.meaning book.old begin result book.new slip.new }
 {
     let owed = book.begin()?;
@@ -38,8 +35,7 @@ fn put_body<S: Store>(
     number: usize,
     body: &[u8],
 ) -> Result<(), Fault>
-    requires sound { Sound S.Store.meaning book.old }
-    requires tied { Tied S.Store.meaning book.old slip.now }
+    requires { Tied S.Store.meaning book.old slip.now }
     ensures { Makes S.Store.meaning book.old (put spent number body.now) result book.new slip.now }
 {
     if spent {
@@ -55,8 +51,7 @@ fn remove_number<S: Store>(
     spent: bool,
     number: usize,
 ) -> Result<(), Fault>
-    requires sound { Sound S.Store.meaning book.old }
-    requires tied { Tied S.Store.meaning book.old slip.now }
+    requires { Tied S.Store.meaning book.old slip.now }
     ensures { Makes S.Store.meaning book.old (remove spent number) result book.new slip.now }
 {
     if spent {
@@ -67,8 +62,7 @@ fn remove_number<S: Store>(
 }
 
 fn commit_update<S: Store>(book: &mut Book<S>, slip: &mut Slip, spent: bool) -> Result<(), Fault>
-    requires sound { Sound S.Store.meaning book.old }
-    requires tied { Tied S.Store.meaning book.old slip.old }
+    requires { Tied S.Store.meaning book.old slip.old }
     ensures { Makes S.Store.meaning book.old (commit spent) result book.new slip.new }
 {
     if spent {
@@ -81,8 +75,7 @@ fn commit_update<S: Store>(book: &mut Book<S>, slip: &mut Slip, spent: bool) -> 
 }
 
 fn abandon_update<S: Store>(book: &mut Book<S>, slip: &mut Slip, spent: bool) -> Result<(), Fault>
-    requires sound { Sound S.Store.meaning book.old }
-    requires tied { Tied S.Store.meaning book.old slip.old }
+    requires { Tied S.Store.meaning book.old slip.old }
     ensures { Makes S.Store.meaning book.old (abandon spent) result book.new slip.new }
 {
     if spent {
@@ -93,8 +86,7 @@ fn abandon_update<S: Store>(book: &mut Book<S>, slip: &mut Slip, spent: bool) ->
 }
 
 fn go_back<S: Store>(book: &mut Book<S>, slip: &Slip, revision: usize) -> Result<(), Fault>
-    requires sound { Sound S.Store.meaning book.old }
-    requires tied { Tied S.Store.meaning book.old slip.now }
+    requires { Tied S.Store.meaning book.old slip.now }
     ensures { Makes S.Store.meaning book.old (back revision) result book.new slip.now }
 {
     book.back(revision)
@@ -106,8 +98,7 @@ pub(crate) fn make_call<S: Store>(
     slip: &mut Slip,
     call: &Call<'_>,
 ) -> Result<(), Fault>
-    requires sound { Sound S.Store.meaning book.old }
-    requires tied { Tied S.Store.meaning book.old slip.old }
+    requires { Tied S.Store.meaning book.old slip.old }
     ensures { Makes S.Store.meaning book.old (call_of call.now) result book.new slip.new }
 {
     match call {

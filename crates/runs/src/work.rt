@@ -1,7 +1,7 @@
 // Any list of calls on a new book.
 ghost use Rattle.std.specs.Prelude.{◌≡◌, ◌≤◌, true, [], length, vec_capacity};
 ghost use Rattle.format.specs.Book.{shut};
-ghost use Rattle.book.specs.Books.{Sound, moment_of, store_in};
+ghost use Rattle.book.specs.Books.{moment_of, store_in};
 ghost use Rattle.runs.specs.Made.{MakesAll, Tied};
 ghost use Rattle.runs.specs.Works.{Worked, had_memory};
 
@@ -21,7 +21,6 @@ fn make_calls<S: Store>(
     calls: &[Call<'_>],
     answers: &mut Vec<Result<(), Fault>>,
 )
-    requires sound { Sound S.Store.meaning book.old }
     requires tied { Tied S.Store.meaning book.old slip.old }
     requires none { answers.old.items ≡ [] }
     requires room { length calls.now ≤ vec_capacity answers.old }
@@ -39,7 +38,6 @@ fn work_on<S: Store>(
     mut answers: Vec<Result<(), Fault>>,
     calls: &[Call<'_>],
 ) -> Work<S>
-    requires sound { Sound S.Store.meaning book }
     requires new { (moment_of S.Store.meaning book).phase ≡ shut }
     requires none { answers.items ≡ [] }
     requires room { length calls.now ≤ vec_capacity answers }

@@ -1,16 +1,12 @@
 // What callers of a book owe of its slips, and lists of calls that are run.
 #![tactic(auto)]
 
-ghost use Rattle.book.specs.Books.{Sound};
-
 use book::book::Book;
 use book::slip::Slip;
 use stores::store::Store;
 
 // Begins an update, and hands its slip on: whoever holds it ends the update.
-pub fn begin_for_later<S: Store>(book: &mut Book<S>) -> Option<Slip>
-    requires { Sound S.Store.meaning book.old }
-{
+pub fn begin_for_later<S: Store>(book: &mut Book<S>) -> Option<Slip> {
     match book.begin() {
         Ok(slip) => Some(slip),
         Err(_) => None,
@@ -18,9 +14,7 @@ pub fn begin_for_later<S: Store>(book: &mut Book<S>) -> Option<Slip>
 }
 
 // The slip shown stays with its holder.
-pub fn remove_for_now<S: Store>(book: &mut Book<S>, slip: Slip, number: usize) -> Slip
-    requires { Sound S.Store.meaning book.old }
-{
+pub fn remove_for_now<S: Store>(book: &mut Book<S>, slip: Slip, number: usize) -> Slip {
     let _ = book.remove(&slip, number);
     slip
 }

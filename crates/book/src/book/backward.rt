@@ -2,7 +2,7 @@
 ghost use Rattle.std.specs.Prelude.{◌≡◌};
 ghost use Rattle.format.specs.Book.{back};
 ghost use Rattle.book.specs.declared.call.Phase.TheVariants.{Standing};
-ghost use Rattle.book.specs.Books.{Performs, Sound};
+ghost use Rattle.book.specs.Books.{Performs};
 
 use super::Book;
 use crate::rows::{cells_end, row_of};
@@ -13,8 +13,7 @@ use stores::store::Store;
 impl<S: Store> Book<S> {
     // Cuts the file at the end of revision k, and the tables behind its row.
     pub(super) fn cut_back(&mut self, k: usize) -> Result<(), Fault>
-        requires sound { Sound S.Store.meaning self.old }
-        requires standing { self.old.phase ≡ Standing }
+        requires { self.old.phase ≡ Standing }
         ensures { Performs S.Store.meaning self.old (back k) result self.new }
     {
         match row_of(self.memory.tables.revisions(), k) {

@@ -1,7 +1,7 @@
 // The calls that change a book.
 ghost use Rattle.std.specs.Prelude.{◌≡◌, false, length, IfOk};
 ghost use Rattle.format.specs.Book.{abandon, back, begin, commit, history, open_file, put, remove, spent_after};
-ghost use Rattle.book.specs.Books.{Performs, Sound, done, store_in};
+ghost use Rattle.book.specs.Books.{Performs, done, store_in};
 ghost use Rattle.book.specs.Slips.{is_spent};
 
 use super::Book;
@@ -13,7 +13,6 @@ use stores::store::Store;
 impl<S: Store> Book<S> {
     // Opens the record that lies in the store, and answers how many revisions it has.
     pub fn open(&mut self) -> Result<usize, Fault>
-        requires { Sound S.Store.meaning self.old }
         ensures performs { Performs S.Store.meaning self.old open_file (done result) self.new }
         ensures counted { IfOk result (λ k. k ≡ length (history (S.Store.meaning (store_in self.new)).bytes)) }
     {
@@ -23,7 +22,6 @@ impl<S: Store> Book<S> {
 
     // Begins an update, and hands out its slip.
     pub fn begin(&mut self) -> Result<Slip, Fault>
-        requires { Sound S.Store.meaning self.old }
         ensures performs { Performs S.Store.meaning self.old begin (done result) self.new }
         ensures owed { IfOk result (λ slip. is_spent slip ≡ false) }
     {
@@ -33,7 +31,6 @@ impl<S: Store> Book<S> {
 
     // Holds a body for a number, in the open update.
     pub fn put(&mut self, slip: &Slip, number: usize, body: &[u8]) -> Result<(), Fault>
-        requires { Sound S.Store.meaning self.old }
         ensures { Performs S.Store.meaning self.old (put (is_spent slip.now) number body.now) result self.new }
     {
         let spent = slip.is_spent();
@@ -46,7 +43,6 @@ impl<S: Store> Book<S> {
 
     // Holds the removal of a number, in the open update.
     pub fn remove(&mut self, slip: &Slip, number: usize) -> Result<(), Fault>
-        requires { Sound S.Store.meaning self.old }
         ensures { Performs S.Store.meaning self.old (remove (is_spent slip.now) number) result self.new }
     {
         let spent = slip.is_spent();
@@ -55,7 +51,6 @@ impl<S: Store> Book<S> {
 
     // Writes the open update behind the file, spends the slip, and answers how many revisions there are then.
     pub fn commit(&mut self, slip: &mut Slip) -> Result<usize, Fault>
-        requires { Sound S.Store.meaning self.old }
         ensures performs { Performs S.Store.meaning self.old (commit (is_spent slip.old)) (done result) self.new }
         ensures counted { IfOk result (λ k. k ≡ length (history (S.Store.meaning (store_in self.new)).bytes)) }
         ensures slip { is_spent slip.new ≡ spent_after (commit (is_spent slip.old)) (done result) (is_spent slip.old) }
@@ -68,7 +63,6 @@ impl<S: Store> Book<S> {
 
     // Drops the open update, and spends the slip.
     pub fn abandon(&mut self, slip: &mut Slip) -> Result<(), Fault>
-        requires { Sound S.Store.meaning self.old }
         ensures performs { Performs S.Store.meaning self.old (abandon (is_spent slip.old)) result self.new }
         ensures slip { is_spent slip.new ≡ spent_after (abandon (is_spent slip.old)) result (is_spent slip.old) }
     {
@@ -80,7 +74,6 @@ impl<S: Store> Book<S> {
 
     // Goes back to revision k: what came behind it is cut off.
     pub fn back(&mut self, k: usize) -> Result<(), Fault>
-        requires { Sound S.Store.meaning self.old }
         ensures { Performs S.Store.meaning self.old (back k) result self.new }
     {
         self.perform(&going_back(k))

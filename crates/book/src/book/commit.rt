@@ -2,7 +2,7 @@
 ghost use Rattle.std.specs.Prelude.{◌≡◌, false};
 ghost use Rattle.format.specs.Book.{commit, decide_commit};
 ghost use Rattle.book.specs.declared.call.Phase.TheVariants.{Updating};
-ghost use Rattle.book.specs.Books.{Performs, Sound, update_in};
+ghost use Rattle.book.specs.Books.{Performs, update_in};
 ghost use Rattle.book.specs.Drafted.{Drafted, Drafts};
 
 use super::Book;
@@ -27,8 +27,7 @@ const MOST_SECTION: usize = records::open::SECTION_BYTES;
 impl<S: Store> Book<S> {
     // Writes the open update behind the file, all or nothing, and reads it back into the tables.
     pub(super) fn write(&mut self) -> Result<(), Fault>
-        requires sound { Sound S.Store.meaning self.old }
-        requires updating { self.old.phase ≡ Updating }
+        requires { self.old.phase ≡ Updating }
         ensures { Performs S.Store.meaning self.old (commit false) result self.new }
     {
         let objects = self.draft();
@@ -47,8 +46,7 @@ impl<S: Store> Book<S> {
 
     // Lays the bytes of the open update down in the writer's memory, and answers how many of them are its objects.
     fn draft(&mut self) -> usize
-        requires sound { Sound S.Store.meaning self.old }
-        requires updating { self.old.phase ≡ Updating }
+        requires { self.old.phase ≡ Updating }
         ensures { Drafts S.Store.meaning self.old result self.new }
     {
         let row = last_row(self.memory.tables.revisions());
@@ -69,7 +67,6 @@ impl<S: Store> Book<S> {
 
     // Whether the update that was laid down may be committed: every check, and nothing is changed.
     fn check_commit(&self, objects: usize) -> Result<(), Fault>
-        requires sound { Sound S.Store.meaning self.now }
         requires updating { self.now.phase ≡ Updating }
         requires drafted { Drafted S.Store.meaning self.now objects }
         ensures { result ≡ decide_commit (S.Store.meaning self.now.store) (update_in self.now) }

@@ -1,6 +1,6 @@
 // What became of an object between two revisions.
 ghost use Rattle.std.specs.Prelude.{◌≡◌, ◌^◌, ◌<◌, length};
-ghost use Rattle.book.specs.Books.{Sound, moment_of};
+ghost use Rattle.book.specs.Books.{moment_of};
 ghost use Rattle.book.specs.Differences.{Lies, LiesIf, ask_differ, became, body_in, same_in};
 
 use super::Book;
@@ -20,7 +20,6 @@ pub enum Difference {
 impl<S: Store> Book<S> {
     // What became of the number n from revision j to revision k, if anything did.
     pub fn differ(&self, j: usize, k: usize, n: usize) -> Result<Option<Difference>, Fault>
-        requires { Sound S.Store.meaning self.now }
         ensures { result ≡ ask_differ (moment_of S.Store.meaning self.now) j k n }
     {
         let earlier = self.row(j, n)?;

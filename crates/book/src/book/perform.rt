@@ -1,6 +1,6 @@
 // What each call does.
 ghost use Rattle.std.specs.Prelude.{◌≡◌};
-ghost use Rattle.book.specs.Books.{Performs, Sound};
+ghost use Rattle.book.specs.Books.{Performs};
 ghost use Rattle.book.specs.Calls.{call_of};
 
 use super::Book;
@@ -11,7 +11,6 @@ use stores::store::Store;
 impl<S: Store> Book<S> {
     // What a call does follows from the state and the call together.
     pub(super) fn perform(&mut self, call: &Call<'_>) -> Result<(), Fault>
-        requires { Sound S.Store.meaning self.old }
         ensures { Performs S.Store.meaning self.old (call_of call.now) result self.new }
     {
         match self.phase {

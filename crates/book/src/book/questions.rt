@@ -1,7 +1,7 @@
 // The questions to a book. They show committed revisions, and change nothing.
 ghost use Rattle.std.specs.Prelude.{◌≡◌};
 ghost use Rattle.format.specs.Questions.{ask_count, ask_list, is_shut};
-ghost use Rattle.book.specs.Books.{Sound, cells_in, moment_of, revisions_in};
+ghost use Rattle.book.specs.Books.{cells_in, moment_of, revisions_in};
 ghost use Rattle.book.specs.Asked.{Draws, Fetches, RowAsked, listed};
 
 use super::Book;
@@ -25,7 +25,6 @@ pub struct Listing {
 impl<S: Store> Book<S> {
     // How many revisions there are.
     pub fn revisions(&self) -> Result<usize, Fault>
-        requires { Sound S.Store.meaning self.now }
         ensures { result ≡ ask_count (moment_of S.Store.meaning self.now) }
     {
         if self.is_shut() {
@@ -36,7 +35,6 @@ impl<S: Store> Book<S> {
 
     // Where revision k's section starts, where it ends, its Size, and how many numbers are in use.
     pub fn list(&self, k: usize) -> Result<Listing, Fault>
-        requires { Sound S.Store.meaning self.now }
         ensures { listed result ≡ ask_list (moment_of S.Store.meaning self.now) k }
     {
         let row = self.row(k, 0)?;
@@ -51,7 +49,6 @@ impl<S: Store> Book<S> {
 
     // The generation and the body's length of the number n in revision k; the body fills the start of the buffer, and the rest keeps its bytes.
     pub fn fetch(&self, k: usize, n: usize, buffer: &mut [u8]) -> Result<(u32, usize), Fault>
-        requires { Sound S.Store.meaning self.now }
         ensures { Fetches (moment_of S.Store.meaning self.now) k n buffer.old result buffer.new }
     {
         let row = self.row(k, n)?;
@@ -66,7 +63,6 @@ impl<S: Store> Book<S> {
 
     // Joins the bytes up to revision k's end behind those of a second store, if its space suffices.
     pub fn draw<T: Store>(&self, k: usize, out: &mut T) -> Result<(), Fault>
-        requires { Sound S.Store.meaning self.now }
         ensures { Draws (moment_of S.Store.meaning self.now) k (T.Store.meaning out.old) result (T.Store.meaning out.new) }
     {
         let row = self.row(k, 0)?;
@@ -79,7 +75,6 @@ impl<S: Store> Book<S> {
 
     // The row of revision k, or what refuses the question; `object` is the number that the question names, 0 if none.
     pub(super) fn row(&self, k: usize, object: usize) -> Result<Revision, Fault>
-        requires { Sound S.Store.meaning self.now }
         ensures { RowAsked (moment_of S.Store.meaning self.now) (revisions_in self.now) (cells_in self.now) object k result }
     {
         if self.is_shut() {

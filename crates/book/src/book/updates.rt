@@ -2,7 +2,7 @@
 ghost use Rattle.std.specs.Prelude.{◌≡◌, false, Ok};
 ghost use Rattle.format.specs.Book.{abandon, begin, put, remove};
 ghost use Rattle.book.specs.declared.call.Phase.TheVariants.{Standing, Updating};
-ghost use Rattle.book.specs.Books.{Performs, Sound};
+ghost use Rattle.book.specs.Books.{Performs};
 
 use super::Book;
 use crate::call::Phase;
@@ -14,8 +14,7 @@ use writer::decisions::{decide_put, decide_remove};
 impl<S: Store> Book<S> {
     // Opens an update with no changes.
     pub(super) fn start(&mut self)
-        requires sound { Sound S.Store.meaning self.old }
-        requires standing { self.old.phase ≡ Standing }
+        requires { self.old.phase ≡ Standing }
         ensures { Performs S.Store.meaning self.old begin (Ok tt) self.new }
     {
         self.memory.held.clear();
@@ -24,8 +23,7 @@ impl<S: Store> Book<S> {
 
     // Drops the changes.
     pub(super) fn let_go(&mut self)
-        requires sound { Sound S.Store.meaning self.old }
-        requires updating { self.old.phase ≡ Updating }
+        requires { self.old.phase ≡ Updating }
         ensures { Performs S.Store.meaning self.old (abandon false) (Ok tt) self.new }
     {
         self.phase = Phase::Standing;
@@ -33,8 +31,7 @@ impl<S: Store> Book<S> {
 
     // Holds a body for a number.
     pub(super) fn hold_body(&mut self, number: usize, body: &[u8]) -> Result<(), Fault>
-        requires sound { Sound S.Store.meaning self.old }
-        requires updating { self.old.phase ≡ Updating }
+        requires { self.old.phase ≡ Updating }
         ensures { Performs S.Store.meaning self.old (put false number body.now) result self.new }
     {
         let row = last_row(self.memory.tables.revisions());
@@ -46,8 +43,7 @@ impl<S: Store> Book<S> {
 
     // Holds the removal of a number.
     pub(super) fn hold_removal(&mut self, number: usize) -> Result<(), Fault>
-        requires sound { Sound S.Store.meaning self.old }
-        requires updating { self.old.phase ≡ Updating }
+        requires { self.old.phase ≡ Updating }
         ensures { Performs S.Store.meaning self.old (remove false number) result self.new }
     {
         let row = last_row(self.memory.tables.revisions());

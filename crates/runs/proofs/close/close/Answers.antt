@@ -6,7 +6,7 @@ use Rattle.runs.proofs.close.close.Goals as goal
 
 pub drop-slip-requires-2 : goal.drop-slip-requires-2
 drop-slip-requires-2 g c =
-    abandoned_spent (moment_of g.S.Store.meaning c.args.book) _ c.abandon.result (is_spent c.args.slip) _ (sym c.is_spent.ensures ∙ c.if-is_spent.false) c.requires.tied c.abandon.ensures.performs.step c.abandon.ensures.slip
+    abandoned_spent (moment_of g.S.Store.meaning c.args.book) _ c.abandon.result (is_spent c.args.slip) _ (sym c.is_spent.ensures ∙ c.if-is_spent.false) c.requires c.abandon.ensures.performs.step c.abandon.ensures.slip
 
 pub returns : goal.returns
 returns g c =

@@ -9,8 +9,8 @@ drop-used-requires g c = c.abandon.ensures.slip ∙ ap (λ x. spent_after (aband
 
 pub returns-then-spent : goal.returns-then-spent
 returns-then-spent g c =
-    abandon_spent_made g.S.Store.meaning _ _ _ c.args.slip.now c.requires.tied c.args.spent _ c.if-spent.true c.spent-used.ensures c.abandon.ensures.performs
+    abandon_spent_made g.S.Store.meaning _ _ _ c.args.slip.now c.requires c.args.spent _ c.if-spent.true c.spent-used.ensures c.abandon.ensures.performs
 
 pub returns : goal.returns
 returns g c =
-    abandon_made g.S.Store.meaning _ _ _ c.args.slip.now c.requires.tied c.args.spent _ c.if-spent.false c.abandon-2.ensures.slip c.abandon-2.ensures.performs
+    abandon_made g.S.Store.meaning _ _ _ c.args.slip.now c.requires c.args.spent _ c.if-spent.false c.abandon-2.ensures.slip c.abandon-2.ensures.performs

@@ -6,8 +6,8 @@ use Rattle.runs.proofs.step.begin_update.Goals as goal
 
 pub drop-slip-requires : goal.drop-slip-requires
 drop-slip-requires g c =
-    begun_spent (moment_of g.S.Store.meaning c.args.book.now) _ tt (is_spent c.args.slip.now) c.in_ok-owed.ensures.performs.step c.requires.tied
+    begun_spent (moment_of g.S.Store.meaning c.args.book.now) _ tt (is_spent c.args.slip.now) c.in_ok-owed.ensures.performs.step c.requires
 
 pub returns : goal.returns
 returns g c =
-    begin_made g.S.Store.meaning _ _ c.args.slip.now _ c.requires.tied c.in_ok-owed.ensures.owed c.in_ok-owed.ensures.performs
+    begin_made g.S.Store.meaning _ _ c.args.slip.now _ c.requires c.in_ok-owed.ensures.owed c.in_ok-owed.ensures.performs

@@ -5,7 +5,7 @@ use Rattle.runs.proofs.work.make_calls.Goals as goal
 
 pub loop-call-init : goal.loop-call-init
 loop-call-init g c =
-    (ap length c.requires.none, refl, run_none (moment_of g.S.Store.meaning c.args.book.now) _ _ c.requires.none, c.requires.sound, c.requires.tied)
+    (ap length c.requires.none, refl, run_none (moment_of g.S.Store.meaning c.args.book.now) _ _ c.requires.none, c.requires.tied)
 
 pub push_reserved-requires : goal.push_reserved-requires
 push_reserved-requires g c =
@@ -17,7 +17,6 @@ loop-call-preserved g c =
       one_more before _ _ c.loop-call.call-index c.loop-call.invariant.0 c.push_reserved.ensures.items,
       c.push_reserved.ensures.capacity ∙ c.loop-call.invariant.1,
       run_more g.S.Store.meaning _ c.args.calls.now before _ c.loop-call.book c.make_call-answer.new.book c.make_call-answer.new.slip _ c.make_call-answer.result c.loop-call.call-index c.loop-call.invariant.0 c.loop-call-test.true c.push_reserved.ensures.items c.loop-call.invariant.2 c.make_call-answer.ensures,
-      c.make_call-answer.ensures.performs.sound,
       c.make_call-answer.ensures.tied,
     )
 
@@ -25,6 +24,6 @@ pub returns : goal.returns
 returns g c = record {
   counted = omega (arith, c.loop-call.invariant.0, c.loop-call-test.false, c.loop-call.auto.call-index-end);
   run = c.loop-call.invariant.2;
-  sound = c.loop-call.invariant.3;
-  tied = c.loop-call.invariant.4;
+  sound = c.loop-call.book.sound;
+  tied = c.loop-call.invariant.3;
 }

@@ -4,7 +4,6 @@ use Rattle.runs.proofs.work.work_on.Goals as goal
 
 pub make_calls-requires : goal.make_calls-requires
 make_calls-requires g c = record {
-  sound = c.in-Ok.ensures.performs.sound;
   tied = opened_tied g.S.Store.meaning c.args.book c.open.new.self c.spent-slip.result c.requires.new c.spent-slip.ensures c.in-Ok.ensures.performs;
   none = c.requires.none;
   room = c.requires.room;

@@ -7,22 +7,22 @@ use Rattle.book.proofs.Performed.{updating_sound, some_row, newest_sized}
 use Rattle.book.proofs.book.Book.check_commit.Goals as goal
 
 pub last_row-row-requires : goal.last_row-row-requires
-last_row-row-requires g c = some_row g.S.Store.meaning c.args.self.now c.requires.sound c.requires.updating _ c.revisions.ensures
+last_row-row-requires g c = some_row g.S.Store.meaning c.args.self.now c.args.self.now.sound c.requires.updating _ c.revisions.ensures
 
 pub overflow_add-row : goal.overflow_add-row
 overflow_add-row g c =
     let b = c.args.self.now in
     let s = g.S.Store.meaning b.store in
-    let st = (updating_sound g.S.Store.meaning b c.requires.sound c.requires.updating).0 in
+    let st = (updating_sound g.S.Store.meaning b c.args.self.now.sound c.requires.updating).0 in
     let known = bounded s.bytes (revisions_in b) (cells_in b) st in
-    let size = newest_sized g.S.Store.meaning b c.requires.sound c.requires.updating _ c.revisions.ensures c.last_row-row.result c.last_row-row.ensures in
+    let size = newest_sized g.S.Store.meaning b c.args.self.now.sound c.requires.updating _ c.revisions.ensures c.last_row-row.result c.last_row-row.ensures in
     omega (arith, known.size, size.0, c.new_numbers.ensures.few)
 
 pub overflow_sub-len : goal.overflow_sub-len
 overflow_sub-len g c =
     let b = c.args.self.now in
     let s = g.S.Store.meaning b.store in
-    let st = (updating_sound g.S.Store.meaning b c.requires.sound c.requires.updating).0 in
+    let st = (updating_sound g.S.Store.meaning b c.args.self.now.sound c.requires.updating).0 in
     omega (arith, (bounded s.bytes (revisions_in b) (cells_in b) st).short, c.len-3.ensures)
 
 pub overflow_sub-added : goal.overflow_sub-added
@@ -44,9 +44,9 @@ returns-then-len-ge-MOST_REVISIONS g c =
     let s = g.S.Store.meaning b.store in
     let D = decided s (update_in b) in
     let some : 1 ≤ length (update_in b) = omega (arith, c.len.ensures) in
-    let st = (updating_sound g.S.Store.meaning b c.requires.sound c.requires.updating).0 in
+    let st = (updating_sound g.S.Store.meaning b c.args.self.now.sound c.requires.updating).0 in
     let known = bounded s.bytes (revisions_in b) (cells_in b) st in
-    let size = newest_sized g.S.Store.meaning b c.requires.sound c.requires.updating _ c.revisions.ensures c.last_row-row.result c.last_row-row.ensures in
+    let size = newest_sized g.S.Store.meaning b c.args.self.now.sound c.requires.updating _ c.revisions.ensures c.last_row-row.result c.last_row-row.ensures in
     let long = ap length c.requires.drafted.bytes in
     ap Err c.refused-then-len-ge-MOST_REVISIONS.ensures ∙ sym (D.many some (omega (arith, c.len-2.ensures, known.counted)))
 
@@ -56,9 +56,9 @@ returns-then-row-new_numbers-gt-MOST_SIZE g c =
     let s = g.S.Store.meaning b.store in
     let D = decided s (update_in b) in
     let some : 1 ≤ length (update_in b) = omega (arith, c.len.ensures) in
-    let st = (updating_sound g.S.Store.meaning b c.requires.sound c.requires.updating).0 in
+    let st = (updating_sound g.S.Store.meaning b c.args.self.now.sound c.requires.updating).0 in
     let known = bounded s.bytes (revisions_in b) (cells_in b) st in
-    let size = newest_sized g.S.Store.meaning b c.requires.sound c.requires.updating _ c.revisions.ensures c.last_row-row.result c.last_row-row.ensures in
+    let size = newest_sized g.S.Store.meaning b c.args.self.now.sound c.requires.updating _ c.revisions.ensures c.last_row-row.result c.last_row-row.ensures in
     let long = ap length c.requires.drafted.bytes in
     ap Err c.refused-then-row-new_numbers-gt-MOST_SIZE.ensures ∙ sym (D.high some (omega (arith, size.1 (update_in b), c.new_numbers.ensures.is)))
 
@@ -68,9 +68,9 @@ returns-then-added-len g c =
     let s = g.S.Store.meaning b.store in
     let D = decided s (update_in b) in
     let some : 1 ≤ length (update_in b) = omega (arith, c.len.ensures) in
-    let st = (updating_sound g.S.Store.meaning b c.requires.sound c.requires.updating).0 in
+    let st = (updating_sound g.S.Store.meaning b c.args.self.now.sound c.requires.updating).0 in
     let known = bounded s.bytes (revisions_in b) (cells_in b) st in
-    let size = newest_sized g.S.Store.meaning b c.requires.sound c.requires.updating _ c.revisions.ensures c.last_row-row.result c.last_row-row.ensures in
+    let size = newest_sized g.S.Store.meaning b c.args.self.now.sound c.requires.updating _ c.revisions.ensures c.last_row-row.result c.last_row-row.ensures in
     let long = ap length c.requires.drafted.bytes in
     ap Err c.refused-then-added-len.ensures ∙ sym (D.long some (omega (arith, c.len-3.ensures, c.len-added.ensures, long)))
 
@@ -80,9 +80,9 @@ returns-then-added-objects-gt-MOST_SECTION g c =
     let s = g.S.Store.meaning b.store in
     let D = decided s (update_in b) in
     let some : 1 ≤ length (update_in b) = omega (arith, c.len.ensures) in
-    let st = (updating_sound g.S.Store.meaning b c.requires.sound c.requires.updating).0 in
+    let st = (updating_sound g.S.Store.meaning b c.args.self.now.sound c.requires.updating).0 in
     let known = bounded s.bytes (revisions_in b) (cells_in b) st in
-    let size = newest_sized g.S.Store.meaning b c.requires.sound c.requires.updating _ c.revisions.ensures c.last_row-row.result c.last_row-row.ensures in
+    let size = newest_sized g.S.Store.meaning b c.args.self.now.sound c.requires.updating _ c.revisions.ensures c.last_row-row.result c.last_row-row.ensures in
     let long = ap length c.requires.drafted.bytes in
     ap Err c.refused-then-added-objects-gt-MOST_SECTION.ensures ∙ sym (D.wide some (omega (arith, c.len-added.ensures, long, c.requires.drafted.count)))
 
@@ -92,9 +92,9 @@ returns-then-added-space g c =
     let s = g.S.Store.meaning b.store in
     let D = decided s (update_in b) in
     let some : 1 ≤ length (update_in b) = omega (arith, c.len.ensures) in
-    let st = (updating_sound g.S.Store.meaning b c.requires.sound c.requires.updating).0 in
+    let st = (updating_sound g.S.Store.meaning b c.args.self.now.sound c.requires.updating).0 in
     let known = bounded s.bytes (revisions_in b) (cells_in b) st in
-    let size = newest_sized g.S.Store.meaning b c.requires.sound c.requires.updating _ c.revisions.ensures c.last_row-row.result c.last_row-row.ensures in
+    let size = newest_sized g.S.Store.meaning b c.args.self.now.sound c.requires.updating _ c.revisions.ensures c.last_row-row.result c.last_row-row.ensures in
     let long = ap length c.requires.drafted.bytes in
     let keeps : KeepsLimits s.bytes (update_in b) =
     record {
@@ -111,9 +111,9 @@ returns g c =
     let s = g.S.Store.meaning b.store in
     let D = decided s (update_in b) in
     let some : 1 ≤ length (update_in b) = omega (arith, c.len.ensures) in
-    let st = (updating_sound g.S.Store.meaning b c.requires.sound c.requires.updating).0 in
+    let st = (updating_sound g.S.Store.meaning b c.args.self.now.sound c.requires.updating).0 in
     let known = bounded s.bytes (revisions_in b) (cells_in b) st in
-    let size = newest_sized g.S.Store.meaning b c.requires.sound c.requires.updating _ c.revisions.ensures c.last_row-row.result c.last_row-row.ensures in
+    let size = newest_sized g.S.Store.meaning b c.args.self.now.sound c.requires.updating _ c.revisions.ensures c.last_row-row.result c.last_row-row.ensures in
     let long = ap length c.requires.drafted.bytes in
     let keeps : KeepsLimits s.bytes (update_in b) =
     record {

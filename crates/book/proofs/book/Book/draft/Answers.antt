@@ -14,27 +14,27 @@ use Rattle.book.proofs.Performed.{updating_sound, some_row, row_inside, newest_o
 use Rattle.book.proofs.book.Book.draft.Goals as goal
 
 pub last_row-row-requires : goal.last_row-row-requires
-last_row-row-requires g c = some_row g.S.Store.meaning c.args.self.now c.requires.sound c.requires.updating _ c.revisions.ensures
+last_row-row-requires g c = some_row g.S.Store.meaning c.args.self.now c.args.self.now.sound c.requires _ c.revisions.ensures
 
 pub unreachable-requires : goal.unreachable-requires
 unreachable-requires g c =
     let f = (g.S.Store.meaning c.args.self.now.store).bytes in
-    let st = (updating_sound g.S.Store.meaning c.args.self.now c.requires.sound c.requires.updating).0 in
+    let st = (updating_sound g.S.Store.meaning c.args.self.now c.args.self.now.sound c.requires).0 in
     newest_reads f c.last_row-row.result.offset c.in-Err.field-0 (newest_section f st.opened st.accepted)
-    (newest_place g.S.Store.meaning c.args.self.now c.requires.sound c.requires.updating _ c.revisions.ensures c.last_row-row.result c.last_row-row.ensures)
+    (newest_place g.S.Store.meaning c.args.self.now c.args.self.now.sound c.requires _ c.revisions.ensures c.last_row-row.result c.last_row-row.ensures)
     c.in-Err.ensures.is
 
 pub cells_of-cells-requires : goal.cells_of-cells-requires
-cells_of-cells-requires g c = row_inside g.S.Store.meaning c.args.self.now c.requires.sound c.requires.updating _ c.revisions.ensures c.last_row-row.result c.last_row-row.ensures _ c.cells.ensures
+cells_of-cells-requires g c = row_inside g.S.Store.meaning c.args.self.now c.args.self.now.sound c.requires _ c.revisions.ensures c.last_row-row.result c.last_row-row.ensures _ c.cells.ensures
 
 pub invariant_of-newest : goal.invariant_of-newest
 invariant_of-newest g c =
     let b = c.args.self.now in
     let f = (g.S.Store.meaning b.store).bytes in
-    let st = (updating_sound g.S.Store.meaning c.args.self.now c.requires.sound c.requires.updating).0 in
+    let st = (updating_sound g.S.Store.meaning c.args.self.now c.args.self.now.sound c.requires).0 in
     let known = bounded f (revisions_in b) (cells_in b) st in
-    let t = newest_table g.S.Store.meaning c.args.self.now c.requires.sound c.requires.updating _ c.revisions.ensures c.last_row-row.result c.last_row-row.ensures _ c.cells.ensures _ c.cells_of-cells.ensures in
-    let o = newest_offset g.S.Store.meaning c.args.self.now c.requires.sound c.requires.updating _ c.revisions.ensures c.last_row-row.result c.last_row-row.ensures _ c.cells.ensures in
+    let t = newest_table g.S.Store.meaning c.args.self.now c.args.self.now.sound c.requires _ c.revisions.ensures c.last_row-row.result c.last_row-row.ensures _ c.cells.ensures _ c.cells_of-cells.ensures in
+    let o = newest_offset g.S.Store.meaning c.args.self.now c.args.self.now.sound c.requires _ c.revisions.ensures c.last_row-row.result c.last_row-row.ensures _ c.cells.ensures in
     let a = subst (λ rs. RowAt rs (length rs) c.last_row-row.result) c.revisions.ensures c.last_row-row.ensures in
     let cells_are = c.cells_of-cells.ensures ∙ ap (λ cs. cells_of cs c.last_row-row.result) c.cells.ensures in
     let seen = subst (λ w. TrailerSeen f c.last_row-row.result.offset w c.in-Ok.place) (sym c.seen.ensures) c.in-Ok.ensures.is in
@@ -52,9 +52,9 @@ unfolding addition
 returns g c =
     let b = c.args.self.now in
     let f = (g.S.Store.meaning b.store).bytes in
-    let st = (updating_sound g.S.Store.meaning c.args.self.now c.requires.sound c.requires.updating).0 in
-    let t = newest_table g.S.Store.meaning c.args.self.now c.requires.sound c.requires.updating _ c.revisions.ensures c.last_row-row.result c.last_row-row.ensures _ c.cells.ensures _ c.cells_of-cells.ensures in
-    let o = newest_offset g.S.Store.meaning c.args.self.now c.requires.sound c.requires.updating _ c.revisions.ensures c.last_row-row.result c.last_row-row.ensures _ c.cells.ensures in
+    let st = (updating_sound g.S.Store.meaning c.args.self.now c.args.self.now.sound c.requires).0 in
+    let t = newest_table g.S.Store.meaning c.args.self.now c.args.self.now.sound c.requires _ c.revisions.ensures c.last_row-row.result c.last_row-row.ensures _ c.cells.ensures _ c.cells_of-cells.ensures in
+    let o = newest_offset g.S.Store.meaning c.args.self.now c.args.self.now.sound c.requires _ c.revisions.ensures c.last_row-row.result c.last_row-row.ensures _ c.cells.ensures in
     let seen = subst (λ w. TrailerSeen f c.last_row-row.result.offset w c.in-Ok.place) (sym c.seen.ensures) c.in-Ok.ensures.is in
     let w = c.write.ensures f (newest f) t o (newest_trailer f c.last_row-row.result.offset _ c.in-Ok.place (newest_section f st.opened st.accepted) o seen) in
     record {

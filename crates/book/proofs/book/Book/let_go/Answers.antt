@@ -10,6 +10,11 @@ pub returns : goal.returns
 returns g c =
     let b = c.args.self.now in
     let m = g.S.Store.meaning in
-    performs_at m b _ (abandon false) (Ok tt) (updating (update_in b)) standing (updating_phase m b c.requires.sound c.requires.updating) refl
+    performs_at b _ (abandon false) (Ok tt) (updating (update_in b)) standing (updating_phase m b c.args.self.now.sound c.requires) refl
     (abandon_step (m b.store) (update_in b))
-    (sound_stays.abandon (m b.store).bytes _ _ (update_in b) (updating_sound m b c.requires.sound c.requires.updating))
+
+pub invariant_of-self : goal.invariant_of-self
+invariant_of-self g c =
+    let b = c.args.self.now in
+    let m = g.S.Store.meaning in
+    record { sound = sound_stays.abandon (m b.store).bytes _ _ (update_in b) (updating_sound m b c.args.self.now.sound c.requires) }

@@ -9,4 +9,4 @@ returns-then-is_shut g c = ap Err c.refused.ensures ∙ sym (shut_answers _ (sym
 pub returns : goal.returns
 returns g c =
     ap (λ rs. Ok (length rs)) c.revisions.ensures
-    ∙ sym (count_rows _ _ _ (open_book g.S.Store.meaning c.args.self.now c.requires (sym c.if-is_shut.ensures)))
+    ∙ sym (count_rows _ _ _ (open_book g.S.Store.meaning c.args.self.now c.args.self.now.sound (sym c.if-is_shut.ensures)))
