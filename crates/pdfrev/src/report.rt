@@ -16,11 +16,8 @@ pub fn accepted<S: Store, W: Write>(book: &Book<S>, out: &mut W) -> Result<(), F
     requires { Sound S.Store.meaning book.now }
 {
     let count = book.revisions()?;
-    if count == 1 {
-        writeln!(out, "accepted: 1 revision")?;
-    } else {
-        writeln!(out, "accepted: {count} revisions")?;
-    }
+    let ending = if count == 1 { "" } else { "s" };
+    writeln!(out, "accepted: {count} revision{ending}")?;
     Ok(())
 }
 
