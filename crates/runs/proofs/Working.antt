@@ -23,7 +23,7 @@ use Rattle.runs.specs.declared.outcome.Work.{Work}
 use Rattle.runs.specs.declared.outcome.WorkError.{WorkError}
 use Rattle.runs.specs.Made.{Tied, Makes, MakesAll}
 use Rattle.runs.specs.Works.{events_in, Finished, Worked, Compared}
-use Rattle.runs.proofs.Ties.{tie_open}
+use Rattle.runs.proofs.Ties.{tie_after}
 
 -- calls without answers are no events
 pub no_events : (cs : List format.Call) → events_of cs [] ≡ []
@@ -56,7 +56,7 @@ module _ {S : Type 0} (meaning : S → Meaning) where
 
   -- no update is open after an opening, and so a spent slip is held
   pub opened_tied : (b b' : Book S) (s : Slip) → (moment_of meaning b).phase ≡ shut → is_spent s ≡ true → Performs meaning b open_file (Ok tt) b' → Tied meaning b' s
-  opened_tied b b' s e h p = tie_open (moment_of meaning b) (moment_of meaning b') (Ok tt) true p.step (ap is_updating e) ∙ ap not (sym h)
+  opened_tied b b' s e h p = tie_after (moment_of meaning b) (moment_of meaning b') open_file (Ok tt) true p.step (ap is_updating e) ∙ ap not (sym h)
 
   -- the opening first, then the calls
   pub finished : (b x y : Book S) (calls : List Call) (answers : List (Answer (Unit {0}))) (s : Slip) → (moment_of meaning b).phase ≡ shut →

@@ -5,6 +5,8 @@ use faults::fault::Fault;
 use stores::store::Store;
 
 // Every call was made, and has its answer; the slip is owed exactly while an update is open.
+//
+// Book and slip are two values, and no invariant ties them here: whoever goes on lends both to the book's own calls, which change one by one.
 pub struct Work<S: Store> {
     pub book: Book<S>,
     pub slip: Slip,
