@@ -93,7 +93,7 @@ impl Call<'_> {
     }
 
     // Whether the call is shown a spent slip.
-    pub(crate) fn is_spent(&self) -> bool
+    pub fn is_spent(&self) -> bool
         ensures { result ≡ shows_spent self.now }
     {
         match self {

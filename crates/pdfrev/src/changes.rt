@@ -35,9 +35,7 @@ pub fn write_changes<W: Write>(
 }
 
 fn write_runs<W: Write>(all: &[Run], out: &mut W) -> io::Result<()> {
-    for run in all {
-        let first = run.first;
-        let last = run.last;
+    for Run { first, last } in all {
         if first == last {
             write!(out, " {first}")?;
         } else {

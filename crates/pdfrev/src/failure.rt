@@ -2,6 +2,7 @@
 use crate::help::USAGE;
 use faults::fault::Fault;
 use reports::advice::advice;
+use reports::command::Usage;
 use reports::trouble::Trouble;
 use std::alloc::{AllocError, AllocFailed};
 use std::io;
@@ -65,6 +66,12 @@ fn tell_fault<W: Write>(fault: Fault, out: &mut W) -> io::Result<()> {
     let words = advice(fault.reason);
     writeln!(out, "pdfrev: {words}")?;
     writeln!(out, "{fault}")
+}
+
+impl From<Usage> for Failure {
+    fn from(_e: Usage) -> Failure {
+        Failure::Usage
+    }
 }
 
 impl From<io::Error> for Failure {

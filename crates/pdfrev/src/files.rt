@@ -1,4 +1,4 @@
-// Records in files: opened, closed, and drawn out.
+// Records in files: opened, and drawn out.
 ghost use Rattle.std.specs.Prelude.{IfOk};
 ghost use Rattle.stores.specs.Flats.{flat_meaning};
 ghost use Rattle.book.specs.Books.{Sound};
@@ -19,10 +19,7 @@ pub fn open(rt: &HostRuntime, path: &str) -> Result<Book<Flat>, Failure>
     ensures { IfOk result (λ book. Sound flat_meaning book) }
 {
     let heap = rt.alloc();
-    let bytes = match load(rt, path) {
-        Ok(bytes) => bytes,
-        Err(error) => return Err(Failure::Unread(error)),
-    };
+    let bytes = load(rt, path).map_err(Failure::Unread)?;
     let length = bytes.len();
     Flat::check(&bytes, length)?;
     let memory = Memory::new(heap)?;
@@ -60,10 +57,6 @@ fn shown(heap: Global, bytes: &[u8], fault: Fault) -> Result<Failure, AllocError
     Ok(Failure::NoRecord { fault, text, mark })
 }
 
-pub fn close(book: Book<Flat>) {
-    let (_store, _memory) = book.into_parts();
-}
-
 // Writes the file as it stood at revision k to a path where there is none, and answers its length.
 pub fn extract(
     rt: &HostRuntime,
@@ -75,23 +68,19 @@ pub fn extract(
     let mut drawn = Flat::new(vec![in rt.alloc(); 0u8; end]?, 0);
     book.draw(k, &mut drawn)?;
     let bytes = drawn.into_memory();
-    match save(rt, path, bytes.as_slice()) {
-        Ok(()) => Ok(end),
-        Err(error) => match error.kind() {
-            ErrorKind::AlreadyExists => Err(Failure::Exists),
-            _ => Err(Failure::Unwritten(error)),
-        },
-    }
+    save(rt, path, bytes.as_slice()).map_err(|error| match error.kind() {
+        ErrorKind::AlreadyExists => Failure::Exists,
+        _ => Failure::Unwritten(error),
+    })?;
+    Ok(end)
 }
 
 // Writes a new file. What could be written of it is taken away again where the system refuses the rest.
 fn save(rt: &HostRuntime, path: &str, bytes: &[u8]) -> io::Result<()> {
     let mut file = File::create_new(rt, path)?;
-    match file.write_all(bytes) {
-        Ok(()) => Ok(()),
-        Err(error) => {
-            let _ = fs::remove_file(rt, path);
-            Err(error)
-        }
+    let done = file.write_all(bytes);
+    if done.is_err() {
+        let _ = fs::remove_file(rt, path);
     }
+    done
 }

@@ -9,7 +9,7 @@ mod report;
 mod table;
 
 use failure::Failure;
-use files::{close, extract, open};
+use files::{extract, open};
 use help::USAGE;
 use report::{accepted, diff, show};
 use reports::command::{Command, parse};
@@ -19,24 +19,14 @@ use table::list;
 
 // Any error ends the program with status 1, after it was told on the standard error.
 fn main(rt: HostRuntime) -> Result<(), ()> {
-    match run(&rt) {
-        Ok(()) => Ok(()),
-        Err(failure) => {
-            let _ = failure.tell(&rt);
-            Err(())
-        }
-    }
+    run(&rt).map_err(|failure| {
+        let _ = failure.tell(&rt);
+    })
 }
 
 fn run(rt: &HostRuntime) -> Result<(), Failure> {
-    let mut words = Vec::new(rt.alloc());
-    for word in env::args(rt)?.skip(1) {
-        words.push(word)?;
-    }
-    match parse(words.as_slice()) {
-        Ok(command) => answer(rt, command),
-        Err(_) => Err(Failure::Usage),
-    }
+    let words: Vec<String> = env::args(rt)?.skip(1).collect(rt.alloc())?;
+    answer(rt, parse(words.as_slice())?)
 }
 
 fn answer(rt: &HostRuntime, command: Command<'_>) -> Result<(), Failure> {
@@ -46,15 +36,11 @@ fn answer(rt: &HostRuntime, command: Command<'_>) -> Result<(), Failure> {
         Command::Help => out.write_all(USAGE)?,
         Command::List { file } => {
             let book = open(rt, file)?;
-            let done = list(heap, &book, &mut out);
-            close(book);
-            done?;
+            list(heap, &book, &mut out)?;
         }
         Command::Check { file } => {
             let book = open(rt, file)?;
-            let done = accepted(&book, &mut out);
-            close(book);
-            done?;
+            accepted(&book, &mut out)?;
         }
         Command::Show {
             file,
@@ -62,9 +48,7 @@ fn answer(rt: &HostRuntime, command: Command<'_>) -> Result<(), Failure> {
             number,
         } => {
             let book = open(rt, file)?;
-            let done = show(heap, &book, revision, number, &mut out);
-            close(book);
-            let generation = done?;
+            let generation = show(heap, &book, revision, number, &mut out)?;
             eprintln!(rt; "generation {generation}")?;
         }
         Command::Extract {
@@ -73,9 +57,7 @@ fn answer(rt: &HostRuntime, command: Command<'_>) -> Result<(), Failure> {
             out: path,
         } => {
             let book = open(rt, file)?;
-            let done = extract(rt, &book, revision, path);
-            close(book);
-            let length = done?;
+            let length = extract(rt, &book, revision, path)?;
             writeln!(out, "{path}: {length} bytes, revision {revision} of {file}")?;
         }
         Command::Diff {
@@ -84,9 +66,7 @@ fn answer(rt: &HostRuntime, command: Command<'_>) -> Result<(), Failure> {
             later,
         } => {
             let book = open(rt, file)?;
-            let done = diff(heap, &book, earlier, later, &mut out);
-            close(book);
-            done?;
+            diff(heap, &book, earlier, later, &mut out)?;
         }
     }
     out.flush()?;

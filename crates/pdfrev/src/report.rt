@@ -12,11 +12,8 @@ const OBJECT_BYTES: usize = 32_768;
 
 pub fn accepted<S: Store, W: Write>(book: &Book<S>, out: &mut W) -> Result<(), Failure> {
     let count = book.revisions()?;
-    if count == 1 {
-        writeln!(out, "accepted: 1 revision")?;
-    } else {
-        writeln!(out, "accepted: {count} revisions")?;
-    }
+    let ending = if count == 1 { "" } else { "s" };
+    writeln!(out, "accepted: {count} revision{ending}")?;
     Ok(())
 }
 

@@ -1,5 +1,4 @@
 mod Cuts
 mod Hexes
-mod Numerals
 mod Stretched
 mod Told

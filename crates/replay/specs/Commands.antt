@@ -1,19 +1,15 @@
 -- How each command is written.
 use Rattle.std.specs.Prelude.{◌≡◌, ℕ, List, [], ◌∷◌, vec_items, codes}
 use Rattle.std.specs.Global.{Vec}
-use Rattle.std.specs.Str.Parse.{digits_value}
 use Rattle.replay.specs.Hex.{hex_of, HexText}
 use Rattle.replay.specs.Lines.{Took, words_of}
-use Rattle.replay.specs.Numbers.{Decimal}
+pub use Rattle.numerals.specs.Numbers.{NumberIn}
 use Rattle.replay.specs.declared.command.Call.{Call}
 use Rattle.replay.specs.declared.command.Call.TheVariants.{Append, Cut, Byte, Bytes}
 use Rattle.replay.specs.declared.command.Command.{Command}
 use Rattle.replay.specs.declared.command.Command.TheVariants.{Flat, Overlay, Store, Read}
 use Rattle.replay.specs.declared.command.Reading.{Reading}
 use Rattle.replay.specs.declared.command.Reading.TheVariants.{Tokens, Object, Body, Frame}
-
-abbrev pub NumberIn : ℕ → List ℕ → Type 0
-NumberIn n word = Decimal word × (n ≡ digits_value 10 word)
 
 abbrev pub BytesIn : Vec ℕ → List ℕ → Type 0
 BytesIn bytes word = HexText word × (hex_of (vec_items bytes) ≡ word)

@@ -4,7 +4,7 @@ pub mod Calls
 pub mod Commands
 pub mod Hex
 pub mod Lines
-pub mod Numbers
+pub use Rattle.numerals.specs.Numbers
 pub mod Piles
 pub mod Readings
 pub mod Sorts

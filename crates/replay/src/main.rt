@@ -7,7 +7,6 @@ mod calls;
 mod command;
 mod hex;
 mod lines;
-mod number;
 mod pile;
 mod readings;
 mod sort;

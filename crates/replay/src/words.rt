@@ -3,11 +3,12 @@ ghost use Rattle.std.specs.Prelude.{◌≡◌, ◌⊎◌, [], ◌∷◌, MatchRe
 ghost use Rattle.replay.specs.Commands.{BytesIn, NumberIn};
 ghost use Rattle.replay.specs.Hex.{HexText};
 ghost use Rattle.replay.specs.Lines.{Amiss, Taken, Took, words_left, words_of};
-ghost use Rattle.replay.specs.Numbers.{Decimal};
+ghost use Rattle.numerals.specs.Numbers.{Decimal};
 ghost use Rattle.replay.specs.declared.trouble.Trouble.TheVariants.{BadBytes, BadNumber, NoMemory, WordMissing, WordSurplus};
 
+use crate::hex;
 use crate::trouble::Trouble;
-use crate::{hex, number};
+use numerals::decimal;
 use std::alloc::Global;
 
 // What is left of a line, if anything is: a line that ends with a space has an empty word left.
@@ -51,7 +52,7 @@ impl<'a> Words<'a> {
         let Some(word) = self.take() else {
             return Err(Trouble::WordMissing);
         };
-        match number::decimal(word) {
+        match decimal(word) {
             Some(n) => Ok(n),
             None => Err(Trouble::BadNumber),
         }

@@ -1,6 +1,5 @@
 -- Two revisions of a book, and the numbers of which something became.
-use Rattle.std.proofs.Common.{◌≡◌, ℕ, suc, ◌+◌, ◌-◌, ◌<◌, max, true, false, cond, List, [], ◌∷◌, ◌++◌, length, get_or, take, Some, None, Ok, Err, Option, sym, refl, ap, ◌∙◌, append_assoc, append-nil, arith}
-use Rattle.std.proofs.lemmas.List.{take_more}
+use Rattle.std.proofs.Common.{◌≡◌, ℕ, suc, ◌+◌, ◌-◌, ◌<◌, max, false, List, [], ◌∷◌, ◌++◌, Some, None, Ok, Err, Option, sym, refl, ap, ◌∙◌, append_assoc, arith}
 use Rattle.faults.specs.declared.fault.Fault.{Fault}
 use Rattle.faults.specs.declared.reason.Reason.TheVariants.{NoRevision}
 use Rattle.faults.specs.Faults.{refused}
@@ -16,7 +15,7 @@ use Rattle.format.specs.Updates.{objects_of}
 use Rattle.book.specs.Differences.{difference, ask_differ}
 use Rattle.book.specs.declared.book.compare.Difference.{Difference}
 use Rattle.reports.specs.declared.differences.Change.{Change}
-use Rattle.reports.specs.Differences.{listing, differing, differences, ask_differences, pair_of, pairs_of, same_kind, numbers_of}
+use Rattle.reports.specs.Differences.{listing, differing, differences, ask_differences, pair_of, pairs_of}
 
 abbrev found : ℕ → Option Revision → Answer Revision
 found n o = elim o [ None ↦ Err (refused NoRevision n) | Some r ↦ Ok r ]
@@ -121,6 +120,11 @@ pub pairs_push : (cs : List Change) (c : Change) → pairs_of (cs ++ (c ∷ []))
 pairs_push [] c = refl
 pairs_push (d ∷ cs) c = ap (λ t. pair_of d ∷ t) (pairs_push cs c)
 
+-- an option that holds nothing
+pub none_if : {A : Type 0} (o : Option A) → ((x : A) → o ≡ Some x → ⊥) → o ≡ None
+none_if None h = refl
+none_if (Some x) h = absurd (h x refl)
+
 -- one number further: nothing became of it, or it is listed
 pub none_listed : (m : Moment) (j k count n : ℕ) (cs : List Change) → n < count → between m j k n ≡ None →
     pairs_of cs ++ behind m j k count n ≡ pairs_of cs ++ behind m j k count (n + 1)
@@ -133,29 +137,3 @@ one_listed m j k count n cs d l e =
     let rest = behind m j k count (n + 1) in
     ap (λ t. pairs_of cs ++ t) (behind_more m j k count n l ∙ ap (λ o. listing n o rest) e)
     ∙ (sym (append_assoc (pairs_of cs) ((n, d) ∷ []) rest) ∙ ap (λ t. t ++ rest) (sym (pairs_push cs (record { number = n; difference = d }))))
-
--- the numbers of which the same became, with one change more
-pub numbers_push : (d : Difference) (cs : List Change) (c : Change) → numbers_of d (cs ++ (c ∷ [])) ≡ numbers_of d cs ++ cond (same_kind c.difference d) (c.number ∷ []) []
-numbers_push d [] c = elim (same_kind c.difference d) as (λ t. cond t (c.number ∷ []) [] ≡ cond t (c.number ∷ []) []) [ true ↦ refl | false ↦ refl ]
-numbers_push d (x ∷ cs) c =
-    let h = numbers_push d cs c in
-    elim (same_kind x.difference d) as (λ t. cond t (x.number ∷ numbers_of d (cs ++ (c ∷ []))) (numbers_of d (cs ++ (c ∷ []))) ≡ cond t (x.number ∷ numbers_of d cs) (numbers_of d cs) ++ cond (same_kind c.difference d) (c.number ∷ []) []) [
-      | true ↦ ap (λ t. x.number ∷ t) h
-      | false ↦ h
-    ]
-
--- with the next change, which is of the kind that is wanted or is not
-pub numbers_with : (d : Difference) (cs : List Change) (i : ℕ) (x : Change) → i < length cs → same_kind (get_or cs i x).difference d ≡ true →
-    numbers_of d (take (i + 1) cs) ≡ numbers_of d (take i cs) ++ ((get_or cs i x).number ∷ [])
-numbers_with d cs i x l e =
-    let c = get_or cs i x in
-    ap (numbers_of d) (take_more cs i x l)
-    ∙ (numbers_push d (take i cs) c ∙ ap (λ t. numbers_of d (take i cs) ++ cond t (c.number ∷ []) []) e)
-
-pub numbers_without : (d : Difference) (cs : List Change) (i : ℕ) (x : Change) → i < length cs → same_kind (get_or cs i x).difference d ≡ false →
-    numbers_of d (take (i + 1) cs) ≡ numbers_of d (take i cs)
-numbers_without d cs i x l e =
-    let c = get_or cs i x in
-    ap (numbers_of d) (take_more cs i x l)
-    ∙ (numbers_push d (take i cs) c
-    ∙ (ap (λ t. numbers_of d (take i cs) ++ cond t (c.number ∷ []) []) e ∙ append-nil (numbers_of d (take i cs))))

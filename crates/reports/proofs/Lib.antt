@@ -1,5 +1,3 @@
-mod Numerals
 mod Listed
-mod Orders
 mod Between
 mod Telling

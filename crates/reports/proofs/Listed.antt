@@ -1,18 +1,8 @@
 -- Parts of lists.
-use Rattle.std.proofs.Common.{◌≡◌, ℕ, zero, suc, ◌+◌, ◌-◌, ◌<◌, ◌≤◌, min, Bool, true, false, eqb, List, [], ◌∷◌, ◌++◌, map, length, get_or, take, drop, sym, refl, ap, ◌∙◌, ⊎_elim, append_assoc, arith}
-use Rattle.std.proofs.lemmas.List.{take_all}
-use Rattle.std.proofs.lemmas.Bool.{cases_lt, eqb-true}
-use Rattle.reports.specs.declared.runs.Run.{Run}
+use Rattle.std.proofs.Common.{◌≡◌, ℕ, zero, suc, ◌+◌, ◌-◌, ◌≤◌, Bool, true, false, eqb, List, [], ◌∷◌, ◌++◌, map, length, get_or, refl, ap, ◌∙◌, append_assoc, arith}
+use Rattle.std.proofs.lemmas.Bool.{eqb-true}
 use Rattle.std.specs.List.{flat_map}
 use Rattle.reports.specs.Runs.{run, runs_from, runs_of, up_from, numbers_in}
-
--- as many as there are, and at most n
-pub take_most : (ys : List ℕ) (n q : ℕ) → q ≡ min (length ys) n → take q ys ≡ take n ys
-take_most ys n q e =
-    ⊎_elim
-    (λ (l : length ys < n). take_all q ys (omega arith) ∙ sym (take_all n ys (omega arith)))
-    (λ (l : n ≤ length ys). let z : q ≡ n = omega arith in ap (λ m. take m ys) z)
-    (cases_lt (length ys) n)
 
 -- lists of one, two and four by their elements
 pub one : {A B : Type 0} (f : A → B) (xs : List A) (a : A) → length xs ≡ 1 → a ≡ get_or xs 0 a → f a ∷ [] ≡ map f xs
@@ -28,25 +18,6 @@ pub four : {A B : Type 0} (f : A → B) (xs : List A) (a b c d : A) → length x
 four f [] a b c d h p q r s = absurd (omega arith)
 four f (x ∷ []) a b c d h p q r s = absurd (omega arith)
 four f (x ∷ y ∷ xs) a b c d h p q r s = let t = two f xs c d (omega arith) r s in cc
-
-pub none : {A : Type 0} (xs : List A) → length xs ≡ 0 → xs ≡ []
-none [] h = refl
-none (x ∷ xs) h = absurd (omega arith)
-
--- the first of numbers begins the first run
-pub first_run : (ns : List ℕ) (x : ℕ) (d : List Run) → 0 < length ns → x ≡ get_or ns 0 0 → d ≡ [] → d ++ runs_from x x (drop 1 ns) ≡ runs_of ns
-first_run [] x d h e z = absurd (omega arith)
-first_run (n ∷ ns) x d h e z = ap (λ t. t ++ runs_from x x ns) z ∙ ap (λ m. runs_from m m ns) e
-
--- a number that follows makes the run longer
-pub longer : (all : List Run) (a b n : ℕ) (ns : List ℕ) → eqb n (b + 1) ≡ true → all ++ runs_from a b (n ∷ ns) ≡ all ++ runs_from a n ns
-longer all a b n ns h = ap (λ t. all ++ elim t [ true ↦ runs_from a n ns | false ↦ run a b ∷ runs_from n n ns ]) h
-
--- any other begins the next
-pub next_run : (all : List Run) (a b n : ℕ) (ns : List ℕ) → eqb n (b + 1) ≡ false → all ++ runs_from a b (n ∷ ns) ≡ (all ++ (run a b ∷ [])) ++ runs_from n n ns
-next_run all a b n ns h =
-    ap (λ t. all ++ elim t [ true ↦ runs_from a n ns | false ↦ run a b ∷ runs_from n n ns ]) h
-    ∙ sym (append_assoc all (run a b ∷ []) (runs_from n n ns))
 
 up_from_more : (a c : ℕ) → up_from a (suc c) ≡ up_from a c ++ ((a + c) ∷ [])
 up_from_more a zero = let z : a ≡ a + 0 = omega arith in ap (λ n. n ∷ []) z

@@ -1,5 +1,5 @@
 -- What changed between two revisions.
-use Rattle.std.specs.Prelude.{◌≡◌, ℕ, zero, suc, max, Bool, true, false, cond, List, [], ◌∷◌, map, Some, None, Ok, Err, vec_items, Option, Result}
+use Rattle.std.specs.Prelude.{◌≡◌, ℕ, zero, suc, max, Bool, true, false, List, [], ◌∷◌, map, filter, Some, None, Ok, Err, vec_items, Option, Result}
 use Rattle.std.specs.Global.{Vec}
 use Rattle.format.specs.Book.{Moment}
 use Rattle.format.specs.Chain.{Answer, also}
@@ -43,6 +43,7 @@ Differs m j k (Ok v) = ask_differences m j k ≡ Ok (pairs_of (vec_items v))
 Differs m j k (Err NoMemory) = Unit {0}
 Differs m j k (Err (Refused f)) = ask_differences m j k ≡ Err f
 
+-- whether they are equal, which the definitions have no test for but one by cases
 abbrev pub same_kind : Difference → Difference → Bool
 same_kind Added Added = true
 same_kind Added Changed = false
@@ -56,5 +57,4 @@ same_kind Withdrawn Withdrawn = true
 
 -- the numbers of which the same became, in their order
 abbrev pub numbers_of : Difference → List Change → List ℕ
-numbers_of d [] = []
-numbers_of d (c ∷ cs) = cond (same_kind c.difference d) (c.number ∷ numbers_of d cs) (numbers_of d cs)
+numbers_of d cs = map (λ c. c.number) (filter (λ c. same_kind c.difference d) cs)

@@ -1,4 +1,4 @@
-pub mod Numbers
+pub use Rattle.numerals.specs.Numbers
 pub mod Commands
 pub mod Excerpts
 pub mod Runs

@@ -1,9 +1,9 @@
 // What a command line asks for.
-ghost use Rattle.std.specs.Prelude.{◌≡◌, [], ◌∷◌, map, string_bytes, MatchOption};
+ghost use Rattle.std.specs.Prelude.{◌≡◌, [], ◌∷◌, map, string_bytes, MatchResult};
 ghost use Rattle.reports.specs.Commands.{Parsed};
-ghost use Rattle.reports.specs.Numbers.{Decimal, NumberIn};
+ghost use Rattle.numerals.specs.Numbers.{Decimal, NumberIn};
 
-use crate::number::decimal;
+use numerals::decimal;
 
 #[derive(Clone, Copy)]
 pub enum Command<'a> {
@@ -39,20 +39,16 @@ pub struct Usage;
 pub fn parse<'a>(words: &'a [String]) -> Result<Command<'a>, Usage>
     ensures { Parsed (map string_bytes words.now) result }
 {
-    let count = words.len();
-    if count == 1 {
-        alone(words[0].as_str())
-    } else if count == 2 {
-        of_file(words[0].as_str(), words[1].as_str())
-    } else if count == 4 {
-        of_two(
-            words[0].as_str(),
-            words[1].as_str(),
-            words[2].as_str(),
-            words[3].as_str(),
-        )
-    } else {
-        Err(Usage)
+    match words {
+        [name] => alone(name.as_str()),
+        [name, file] => of_file(name.as_str(), file.as_str()),
+        [name, file, first, second] => of_two(
+            name.as_str(),
+            file.as_str(),
+            first.as_str(),
+            second.as_str(),
+        ),
+        _ => Err(Usage),
     }
 }
 
@@ -60,10 +56,9 @@ pub fn parse<'a>(words: &'a [String]) -> Result<Command<'a>, Usage>
 fn alone<'a>(name: &'a str) -> Result<Command<'a>, Usage>
     ensures { Parsed (name.now ∷ []) result }
 {
-    if name == "help" {
-        Ok(Command::Help)
-    } else {
-        Err(Usage)
+    match name {
+        "help" => Ok(Command::Help),
+        _ => Err(Usage),
     }
 }
 
@@ -71,12 +66,10 @@ fn alone<'a>(name: &'a str) -> Result<Command<'a>, Usage>
 fn of_file<'a>(name: &'a str, file: &'a str) -> Result<Command<'a>, Usage>
     ensures { Parsed (name.now ∷ (file.now ∷ [])) result }
 {
-    if name == "list" {
-        Ok(Command::List { file })
-    } else if name == "check" {
-        Ok(Command::Check { file })
-    } else {
-        Err(Usage)
+    match name {
+        "list" => Ok(Command::List { file }),
+        "check" => Ok(Command::Check { file }),
+        _ => Err(Usage),
     }
 }
 
@@ -89,42 +82,29 @@ fn of_two<'a>(
 ) -> Result<Command<'a>, Usage>
     ensures { Parsed (name.now ∷ (file.now ∷ (first.now ∷ (second.now ∷ [])))) result }
 {
-    if name == "extract" {
-        return match decimal(first) {
-            Some(revision) => Ok(Command::Extract {
-                file,
-                revision,
-                out: second,
-            }),
-            None => Err(Usage),
-        };
-    }
-    match both(first, second) {
-        Some((a, b)) => {
-            if name == "show" {
-                Ok(Command::Show {
-                    file,
-                    revision: a,
-                    number: b,
-                })
-            } else if name == "diff" {
-                Ok(Command::Diff {
-                    file,
-                    earlier: a,
-                    later: b,
-                })
-            } else {
-                Err(Usage)
-            }
-        }
-        None => Err(Usage),
+    match name {
+        "show" => Ok(Command::Show {
+            file,
+            revision: number(first)?,
+            number: number(second)?,
+        }),
+        "extract" => Ok(Command::Extract {
+            file,
+            revision: number(first)?,
+            out: second,
+        }),
+        "diff" => Ok(Command::Diff {
+            file,
+            earlier: number(first)?,
+            later: number(second)?,
+        }),
+        _ => Err(Usage),
     }
 }
 
-fn both(first: &str, second: &str) -> Option<(usize, usize)>
-    ensures { MatchOption result (Decimal first.now → Decimal second.now → ⊥) (λ p. NumberIn p.0 first.now × NumberIn p.1 second.now) }
+// The number that a word writes.
+fn number(word: &str) -> Result<usize, Usage>
+    ensures { MatchResult result (λ n. NumberIn n word.now) (λ _. Decimal word.now → ⊥) }
 {
-    let a = decimal(first)?;
-    let b = decimal(second)?;
-    Some((a, b))
+    decimal(word).ok_or(Usage)
 }

@@ -1,7 +1,7 @@
 // What changed between two revisions.
 ghost use Rattle.std.specs.Prelude.{◌≡◌, IfOk};
 ghost use Rattle.book.specs.Books.{moment_of};
-ghost use Rattle.reports.specs.Differences.{Differs, numbers_of, same_kind};
+ghost use Rattle.reports.specs.Differences.{Differs, numbers_of};
 
 use crate::trouble::Trouble;
 use book::book::Book;
@@ -30,12 +30,11 @@ pub fn differences<S: Store>(
     let count = earlier.size.max(later.size);
     let mut all = Vec::with_capacity(heap, count)?;
     for n in 0..count {
-        match book.differ(j, k, n)? {
-            Some(difference) => all.push_reserved(Change {
+        if let Some(difference) = book.differ(j, k, n)? {
+            all.push_reserved(Change {
                 number: n,
                 difference,
-            }),
-            None => {}
+            });
         }
     }
     Ok(all)
@@ -49,30 +48,9 @@ pub fn numbers_of(
 ) -> Result<Vec<usize>, AllocError>
     ensures { IfOk result (λ v. v.items ≡ numbers_of difference changes.now) }
 {
-    let mut numbers = Vec::new(heap);
-    for change in changes {
-        if is_same(change.difference, difference) {
-            numbers.push(change.number)?;
-        }
-    }
-    Ok(numbers)
-}
-
-fn is_same(a: Difference, b: Difference) -> bool
-    ensures { result ≡ same_kind a b }
-{
-    match a {
-        Difference::Added => match b {
-            Difference::Added => true,
-            _ => false,
-        },
-        Difference::Changed => match b {
-            Difference::Changed => true,
-            _ => false,
-        },
-        Difference::Withdrawn => match b {
-            Difference::Withdrawn => true,
-            _ => false,
-        },
-    }
+    changes
+        .iter()
+        .filter(|change| change.difference == difference)
+        .map(|change| change.number)
+        .collect(heap)
 }

@@ -20,13 +20,10 @@ pub fn around<'a>(bytes: &'a [u8], place: usize) -> Excerpt<'a>
     ensures before { result.before.now ≡ before_place bytes.now place }
     ensures behind { result.behind.now ≡ behind_place bytes.now place }
 {
-    let middle = place.min(bytes.len());
-    let start = middle.saturating_sub(REACH);
-    let rest = bytes.len() - middle;
-    let end = middle + rest.min(REACH);
+    let (before, behind) = bytes.split_at(place.min(bytes.len()));
     Excerpt {
-        before: &bytes[start..middle],
-        behind: &bytes[middle..end],
+        before: &before[before.len().saturating_sub(REACH)..],
+        behind: &behind[..behind.len().min(REACH)],
     }
 }
 
@@ -34,7 +31,7 @@ pub fn around<'a>(bytes: &'a [u8], place: usize) -> Excerpt<'a>
 fn is_plain(byte: u8) -> bool
     ensures { result ≡ is_plain byte }
 {
-    byte >= 32 && byte < 127 && byte != b'\\'
+    matches!(byte, b' '..=b'~') && byte != b'\\'
 }
 
 fn digit(n: u8) -> u8

@@ -17,22 +17,25 @@ pub fn runs(heap: Global, numbers: &[usize]) -> Result<Vec<Run>, AllocError>
     ensures whole { IfOk result (λ v. flat_map numbers_in v.items ≡ numbers.now) }
 {
     let mut all = Vec::new(heap);
-    if numbers.len() == 0 {
+    let Some((start, rest)) = numbers.split_first() else {
         return Ok(all);
-    }
-    let mut first = numbers[0];
-    let mut last = first;
-    for i in 1..numbers.len() {
-        let n = numbers[i];
-        if follows(last, n) {
-            last = n;
+    };
+    let mut run = Run {
+        first: *start,
+        last: *start,
+    };
+    for n in rest {
+        if follows(run.last, *n) {
+            run.last = *n;
         } else {
-            all.push(Run { first, last })?;
-            first = n;
-            last = n;
+            all.push(run)?;
+            run = Run {
+                first: *n,
+                last: *n,
+            };
         }
     }
-    all.push(Run { first, last })?;
+    all.push(run)?;
     Ok(all)
 }
 
@@ -40,5 +43,5 @@ pub fn runs(heap: Global, numbers: &[usize]) -> Result<Vec<Run>, AllocError>
 fn follows(last: usize, n: usize) -> bool
     ensures { result ≡ (n == last + 1) }
 {
-    n > last && n - last == 1
+    last.checked_add(1) == Some(n)
 }

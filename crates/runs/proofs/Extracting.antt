@@ -1,5 +1,5 @@
 -- A revision that was drawn out into an empty store, opened by a new book.
-use Rattle.std.proofs.Common.{◌≡◌, ℕ, ◌≤◌, List, [], ◌∷◌, ◌++◌, length, Ok, Err, sym, refl, ap, ◌∙◌, subst, arith}
+use Rattle.std.proofs.Common.{◌≡◌, ℕ, ◌≤◌, List, [], ◌∷◌, ◌++◌, length, Ok, Err, Result, sym, refl, ap, ◌∙◌, subst, arith}
 use Rattle.faults.specs.declared.fault.Fault.{Fault}
 use Rattle.stores.specs.Meanings.{Meaning}
 use Rattle.stores.specs.declared.store.Store.{Ghosts}
@@ -9,13 +9,17 @@ use Rattle.format.specs.Law.{shut_over}
 use Rattle.book.specs.declared.book.Book.{Book}
 use Rattle.book.specs.Asked.{Draws}
 use Rattle.book.specs.Books.{Performs, moment_of, store_in}
-use Rattle.runs.specs.declared.alone.Extract.TheVariants.{Opened}
 use Rattle.runs.specs.Extracts.{Extracts}
 use Rattle.runs.proofs.Drawing.{alone, opens_alone}
 
 pub none_left : {A : Type 0} (xs : List A) → length xs ≤ 0 → xs ≡ []
 none_left [] h = refl
 none_left (x ∷ xs) h = absurd (omega arith)
+
+-- a drawing that was not refused
+pub not_refused : (m : Moment) (k : ℕ) (was is : Meaning) (r : Result (Unit {0}) Fault) → ((x : Fault) → r ≡ Err x → ⊥) → Draws m k was r is → Draws m k was (Ok tt) is
+not_refused m k was is (Ok u) other d = d
+not_refused m k was is (Err x) other d = absurd (other x refl)
 
 module _ {S T : Type 0} {v : Ghosts S} {w : Ghosts T} (f : S → Meaning) (g : T → Meaning) (b : Book S v) (k : ℕ) (out x : T) (u : Unit {0}) (empty : (g out).bytes ≡ []) (d : Draws (moment_of f b) k (g out) (Ok u) (g x)) (n : Book T w) (e : store_in n ≡ x) (new : (moment_of g n).phase ≡ shut) where
   -- the new book is shut over the bytes that were drawn
@@ -25,7 +29,7 @@ module _ {S T : Type 0} {v : Ghosts S} {w : Ghosts T} (f : S → Meaning) (g : T
       let at : moment_of g n ≡ shut_over d.0 (g (store_in n)).space = λ i. record { store = record { bytes = bytes i; space = (g (store_in n)).space }; phase = new i } in
       subst (λ m. Step m open_file a n') at s
 
-  pub extract_opened : (n' : Book T w) → Performs g n open_file (Ok tt) n' → Extracts f g b k out (Opened n')
+  pub extract_opened : (n' : Book T w) → Performs g n open_file (Ok tt) n' → Extracts f g b k out (Ok n')
   unfolding bytes_after
   extract_opened n' p =
       let s = shut_over_fact (Ok tt) (moment_of g n') p.step in

@@ -7,18 +7,11 @@ use Rattle.format.specs.Bytes.{Bytes}
 use Rattle.format.specs.Chain.{Answer}
 use Rattle.laws.proofs.Held.{never}
 use Rattle.keeping.specs.Driving.{is_updating}
+use Rattle.book.specs.declared.call.Call as book
+use Rattle.book.specs.declared.call.Call.TheVariants.{Open, Begin, Put, Remove, Commit, Abandon, Back}
+use Rattle.book.specs.Calls.{call_of, shows_spent}
 use Rattle.keeping.proofs.Runs.{slips_wait}
-
--- whether the slip held after a call is spent: an accepted begin hands out one that is not
-abbrev pub held_after : Call → Answer (Unit {0}) → Bool → Bool
-held_after c (Err f) x = x
-held_after open_file (Ok u) x = x
-held_after begin (Ok u) x = false
-held_after (put s n b) (Ok u) x = x
-held_after (remove s n) (Ok u) x = x
-held_after (commit s) (Ok u) x = true
-held_after (abandon s) (Ok u) x = true
-held_after (back k) (Ok u) x = x
+use Rattle.runs.specs.Made.{with_slip, held_after}
 
 clash : {P : Type 0} (u : Unit {0}) (f : Fault) → ◌≡◌ {A = Answer (Unit {0})} (Ok u) (Err f) → P
 clash u f e = let z : ◌≡◌ {A = ℕ} 0 1 = cc in absurd (omega arith)
@@ -48,9 +41,19 @@ after_ok s (updating v) (commit y) u x e t = refl
 after_ok s (updating v) (abandon y) u x e t = refl
 after_ok s (updating v) (back k) u x e t = clash u _ e
 
+-- a refused call leaves the slip as it is
+kept : (c : Call) (f : Fault) (x : Bool) → held_after c (Err f) x ≡ x
+kept open_file f x = refl
+kept begin f x = refl
+kept (put y n b) f x = refl
+kept (remove y n) f x = refl
+kept (commit y) f x = refl
+kept (abandon y) f x = refl
+kept (back k) f x = refl
+
 pub tie_after : (m m' : Moment) (c : Call) (a : Answer (Unit {0})) (x : Bool) → Step m c a m' → is_updating m.phase ≡ not x → is_updating m'.phase ≡ not (held_after c a x)
 tie_after m m' c (Ok u) x s t = ap is_updating s.leaves.phase ∙ after_ok m.store m.phase c u x s.answer t
-tie_after m m' c (Err f) x s t = ap (λ n. is_updating n.phase) s.leaves ∙ t
+tie_after m m' c (Err f) x s t = ap (λ n. is_updating n.phase) s.leaves ∙ (t ∙ ap not (sym (kept c f x)))
 
 -- a spent slip ends no update
 no_commit : (s : Meaning) (p : Phase) (u : Unit {0}) → Ok u ≡ decide s p (commit true) → ⊥
@@ -65,53 +68,60 @@ no_abandon s shut u e = clash u _ e
 no_abandon s standing u e = clash u _ e
 no_abandon s (updating v) u e = clash u _ e
 
-pub tie_spent_commit : (m m' : Moment) (a : Answer (Unit {0})) (x : Bool) → Step m (commit true) a m' → is_updating m.phase ≡ not x → is_updating m'.phase ≡ not x
-tie_spent_commit m m' (Ok u) x s t = absurd (no_commit m.store m.phase u s.answer)
-tie_spent_commit m m' (Err f) x s t = tie_after m m' (commit true) (Err f) x s t
+spent_commit : (m m' : Moment) (a : Answer (Unit {0})) (x : Bool) → Step m (commit true) a m' → is_updating m.phase ≡ not x → is_updating m'.phase ≡ not x
+spent_commit m m' (Ok u) x s t = absurd (no_commit m.store m.phase u s.answer)
+spent_commit m m' (Err f) x s t = tie_after m m' (commit true) (Err f) x s t
 
-pub tie_spent_abandon : (m m' : Moment) (a : Answer (Unit {0})) (x : Bool) → Step m (abandon true) a m' → is_updating m.phase ≡ not x → is_updating m'.phase ≡ not x
-tie_spent_abandon m m' (Ok u) x s t = absurd (no_abandon m.store m.phase u s.answer)
-tie_spent_abandon m m' (Err f) x s t = tie_after m m' (abandon true) (Err f) x s t
+spent_abandon : (m m' : Moment) (a : Answer (Unit {0})) (x : Bool) → Step m (abandon true) a m' → is_updating m.phase ≡ not x → is_updating m'.phase ≡ not x
+spent_abandon m m' (Ok u) x s t = absurd (no_abandon m.store m.phase u s.answer)
+spent_abandon m m' (Err f) x s t = tie_after m m' (abandon true) (Err f) x s t
 
--- calls that leave the slip as it is
-pub tie_open : (m m' : Moment) (a : Answer (Unit {0})) (x : Bool) → Step m open_file a m' → is_updating m.phase ≡ not x → is_updating m'.phase ≡ not x
-tie_open m m' (Ok u) x s t = tie_after m m' open_file (Ok u) x s t
-tie_open m m' (Err f) x s t = tie_after m m' open_file (Err f) x s t
+-- A call that asks for a spent slip is made with one, and that one stays spent; the slip that is held meanwhile stays as it is.
+pub as_asked : (d : book.Call) → shows_spent d ≡ true → with_slip true (call_of d) ≡ call_of d
+as_asked Open e = refl
+as_asked Begin e = refl
+as_asked (Put true n b) e = refl
+as_asked (Put false n b) e = never (sym e)
+as_asked (Remove true n) e = refl
+as_asked (Remove false n) e = never (sym e)
+as_asked (Commit true) e = refl
+as_asked (Commit false) e = never (sym e)
+as_asked (Abandon true) e = refl
+as_asked (Abandon false) e = never (sym e)
+as_asked (Back k) e = refl
 
-pub tie_put : (m m' : Moment) (y : Bool) (n : ℕ) (b : Bytes) (a : Answer (Unit {0})) (x : Bool) → Step m (put y n b) a m' → is_updating m.phase ≡ not x → is_updating m'.phase ≡ not x
-tie_put m m' y n b (Ok u) x s t = tie_after m m' (put y n b) (Ok u) x s t
-tie_put m m' y n b (Err f) x s t = tie_after m m' (put y n b) (Err f) x s t
+pub stays_spent : (d : book.Call) (a : Answer (Unit {0})) → shows_spent d ≡ true → held_after (call_of d) a true ≡ true
+stays_spent Open a e = refl
+stays_spent Begin a e = never (sym e)
+stays_spent (Put y n b) a e = refl
+stays_spent (Remove y n) a e = refl
+stays_spent (Commit y) (Ok u) e = refl
+stays_spent (Commit y) (Err f) e = refl
+stays_spent (Abandon y) (Ok u) e = refl
+stays_spent (Abandon y) (Err f) e = refl
+stays_spent (Back k) a e = refl
 
-pub tie_remove : (m m' : Moment) (y : Bool) (n : ℕ) (a : Answer (Unit {0})) (x : Bool) → Step m (remove y n) a m' → is_updating m.phase ≡ not x → is_updating m'.phase ≡ not x
-tie_remove m m' y n (Ok u) x s t = tie_after m m' (remove y n) (Ok u) x s t
-tie_remove m m' y n (Err f) x s t = tie_after m m' (remove y n) (Err f) x s t
+pub tie_spent : (m m' : Moment) (d : book.Call) (a : Answer (Unit {0})) (x : Bool) → shows_spent d ≡ true → Step m (call_of d) a m' → is_updating m.phase ≡ not x → is_updating m'.phase ≡ not x
+tie_spent m m' Open a x e s t = never (sym e)
+tie_spent m m' Begin a x e s t = never (sym e)
+tie_spent m m' (Put y n b) a x e s t = tie_after m m' (put y n b.now) a x s t
+tie_spent m m' (Remove y n) a x e s t = tie_after m m' (remove y n) a x s t
+tie_spent m m' (Commit true) a x e s t = spent_commit m m' a x s t
+tie_spent m m' (Commit false) a x e s t = never (sym e)
+tie_spent m m' (Abandon true) a x e s t = spent_abandon m m' a x s t
+tie_spent m m' (Abandon false) a x e s t = never (sym e)
+tie_spent m m' (Back k) a x e s t = never (sym e)
 
-pub tie_back : (m m' : Moment) (k : ℕ) (a : Answer (Unit {0})) (x : Bool) → Step m (back k) a m' → is_updating m.phase ≡ not x → is_updating m'.phase ≡ not x
-tie_back m m' k (Ok u) x s t = tie_after m m' (back k) (Ok u) x s t
-tie_back m m' k (Err f) x s t = tie_after m m' (back k) (Err f) x s t
-
--- calls that can spend it
-pub tie_commit : (m m' : Moment) (y : Bool) (a : Answer (Unit {0})) (x z : Bool) → Step m (commit y) a m' → z ≡ spent_after (commit y) a x → is_updating m.phase ≡ not x → is_updating m'.phase ≡ not z
+-- commit and abandon spend the slip that is shown to them
+pub spent_by_commit : (a : Answer (Unit {0})) (x y : Bool) → spent_after (commit x) a x ≡ held_after (commit y) a x
 unfolding spent_after
-tie_commit m m' y (Ok u) x z s e t = tie_after m m' (commit y) (Ok u) x s t ∙ ap not (sym e)
-tie_commit m m' y (Err f) x z s e t = tie_after m m' (commit y) (Err f) x s t ∙ ap not (sym e)
+spent_by_commit (Ok u) x y = refl
+spent_by_commit (Err f) x y = refl
 
-pub tie_abandon : (m m' : Moment) (y : Bool) (a : Answer (Unit {0})) (x z : Bool) → Step m (abandon y) a m' → z ≡ spent_after (abandon y) a x → is_updating m.phase ≡ not x → is_updating m'.phase ≡ not z
+pub spent_by_abandon : (a : Answer (Unit {0})) (x y : Bool) → spent_after (abandon x) a x ≡ held_after (abandon y) a x
 unfolding spent_after
-tie_abandon m m' y (Ok u) x z s e t = tie_after m m' (abandon y) (Ok u) x s t ∙ ap not (sym e)
-tie_abandon m m' y (Err f) x z s e t = tie_after m m' (abandon y) (Err f) x s t ∙ ap not (sym e)
-
--- a spent slip stays spent
-pub stays_spent : (c : Call) (a : Answer (Unit {0})) → spent_after c a true ≡ true
-unfolding spent_after
-stays_spent c (Err f) = refl
-stays_spent open_file (Ok u) = refl
-stays_spent begin (Ok u) = refl
-stays_spent (put x n b) (Ok u) = refl
-stays_spent (remove x n) (Ok u) = refl
-stays_spent (commit x) (Ok u) = refl
-stays_spent (abandon x) (Ok u) = refl
-stays_spent (back k) (Ok u) = refl
+spent_by_abandon (Ok u) x y = refl
+spent_by_abandon (Err f) x y = refl
 
 -- an update is begun where none is open, so the slip that is let go is spent
 no_update : (s : Meaning) (p : Phase) (u : Unit {0}) → Ok u ≡ decide s p begin → is_updating p ≡ false
@@ -120,30 +130,44 @@ no_update s shut u e = clash u _ e
 no_update s standing u e = refl
 no_update s (updating v) u e = clash u _ e
 
-is_spent_fact : (x : Bool) → false ≡ not x → x ≡ true
-is_spent_fact true e = refl
-is_spent_fact false e = never (sym e)
+pub begun_idle : (m m' : Moment) (u : Unit {0}) → Step m begin (Ok u) m' → is_updating m.phase ≡ false
+begun_idle m m' u s = no_update m.store m.phase u s.answer
 
-pub begun_spent : (m m' : Moment) (u : Unit {0}) (x : Bool) → Step m begin (Ok u) m' → is_updating m.phase ≡ not x → x ≡ true
-begun_spent m m' u x s t = is_spent_fact x (sym (no_update m.store m.phase u s.answer) ∙ t)
+-- where no update is open, the slip held is spent
+pub idle_spent : (m : Moment) (x : Bool) → is_updating m.phase ≡ not x → is_updating m.phase ≡ false → x ≡ true
+idle_spent m true t i = refl
+idle_spent m false t i = never (sym t ∙ i)
 
 -- The slip held serves for an unspent one: it is unspent, or no update is open and it makes no difference.
 module _ (m m' : Moment) (a : Answer (Unit {0})) where
-  pub put_held : (x : Bool) (n : ℕ) (b : Bytes) → is_updating m.phase ≡ not x → Step m (put x n b) a m' → Step m (put false n b) a m'
+  put_held : (x : Bool) (n : ℕ) (b : Bytes) → is_updating m.phase ≡ not x → Step m (put x n b) a m' → Step m (put false n b) a m'
   put_held true n b t s = (slips_wait m t).put true false n b a m' s
   put_held false n b t s = s
 
-  pub remove_held : (x : Bool) (n : ℕ) → is_updating m.phase ≡ not x → Step m (remove x n) a m' → Step m (remove false n) a m'
+  remove_held : (x : Bool) (n : ℕ) → is_updating m.phase ≡ not x → Step m (remove x n) a m' → Step m (remove false n) a m'
   remove_held true n t s = (slips_wait m t).remove true false n a m' s
   remove_held false n t s = s
 
-  pub commit_held : (x : Bool) → is_updating m.phase ≡ not x → Step m (commit x) a m' → Step m (commit false) a m'
+  commit_held : (x : Bool) → is_updating m.phase ≡ not x → Step m (commit x) a m' → Step m (commit false) a m'
   commit_held true t s = (slips_wait m t).commit true false a m' s
   commit_held false t s = s
 
-  pub abandon_held : (x : Bool) → is_updating m.phase ≡ not x → Step m (abandon x) a m' → Step m (abandon false) a m'
+  abandon_held : (x : Bool) → is_updating m.phase ≡ not x → Step m (abandon x) a m' → Step m (abandon false) a m'
   abandon_held true t s = (slips_wait m t).abandon true false a m' s
   abandon_held false t s = s
+
+pub serves : (m m' : Moment) (d : book.Call) (a : Answer (Unit {0})) (x : Bool) → shows_spent d ≡ false → is_updating m.phase ≡ not x → Step m (with_slip x (call_of d)) a m' → Step m (call_of d) a m'
+serves m m' Open a x e t s = s
+serves m m' Begin a x e t s = s
+serves m m' (Put true n b) a x e t s = never e
+serves m m' (Put false n b) a x e t s = put_held m m' a x n b.now t s
+serves m m' (Remove true n) a x e t s = never e
+serves m m' (Remove false n) a x e t s = remove_held m m' a x n t s
+serves m m' (Commit true) a x e t s = never e
+serves m m' (Commit false) a x e t s = commit_held m m' a x t s
+serves m m' (Abandon true) a x e t s = never e
+serves m m' (Abandon false) a x e t s = abandon_held m m' a x t s
+serves m m' (Back k) a x e t s = s
 
 -- An update that is open can always be abandoned, with its slip: that leaves the store as it is, and the slip is spent.
 abandoning : (s : Meaning) (p : Phase) → is_updating p ≡ true → decide s p (abandon false) ≡ Ok tt

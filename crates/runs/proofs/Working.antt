@@ -1,5 +1,5 @@
 -- Lists of calls as runs, from the first call on.
-use Rattle.std.proofs.Common.{◌≡◌, ℕ, ◌+◌, ◌<◌, true, not, List, [], ◌∷◌, ◌++◌, map, length, get_or, Ok, Err, vec_items, sym, refl, ap, ◌∙◌, subst, arith, length-append}
+use Rattle.std.proofs.Common.{◌≡◌, ℕ, ◌+◌, ◌<◌, true, not, List, [], ◌∷◌, ◌++◌, map, length, get_or, Ok, Err, Result, vec_items, sym, refl, ap, ◌∙◌, subst, arith, length-append}
 use Rattle.std.proofs.lemmas.List.{length-map, get_or-map}
 use Rattle.faults.specs.declared.fault.Fault.{Fault}
 use Rattle.stores.specs.Meanings.{Meaning}
@@ -19,11 +19,12 @@ use Rattle.book.specs.declared.slip.Slip.{Slip}
 use Rattle.book.specs.Books.{Performs, moment_of, store_in}
 use Rattle.book.specs.Calls.{call_of}
 use Rattle.book.specs.Slips.{is_spent}
+use Rattle.runs.specs.declared.outcome.Stopped.{Stopped}
 use Rattle.runs.specs.declared.outcome.Work.{Work}
-use Rattle.runs.specs.declared.outcome.Work.TheVariants.{NoMemory, Refused, Done}
+use Rattle.runs.specs.declared.outcome.WorkError.{WorkError}
 use Rattle.runs.specs.Made.{Tied, Makes, MakesAll}
 use Rattle.runs.specs.Works.{events_in, Finished, Worked, Compared}
-use Rattle.runs.proofs.Ties.{tie_open}
+use Rattle.runs.proofs.Ties.{tie_after}
 
 -- calls without answers are no events
 pub no_events : (cs : List format.Call) → events_of cs [] ≡ []
@@ -61,7 +62,7 @@ module _ {S : Type 0} {g : Ghosts S} (meaning : S → Meaning) where
 
   -- no update is open after an opening, and so a spent slip is held
   pub opened_tied : (b b' : Book S g) (s : Slip) → (moment_of meaning b).phase ≡ shut → is_spent s ≡ true → Performs meaning b open_file (Ok tt) b' → Tied meaning b' s
-  opened_tied b b' s e h p = tie_open (moment_of meaning b) (moment_of meaning b') (Ok tt) true p.step (ap is_updating e) ∙ ap not (sym h)
+  opened_tied b b' s e h p = tie_after (moment_of meaning b) (moment_of meaning b') open_file (Ok tt) true p.step (ap is_updating e) ∙ ap not (sym h)
 
   -- the opening first, then the calls
   pub finished : (b x y : Book S g) (calls : List Call) (answers : List (Answer (Unit {0}))) (s : Slip) → (moment_of meaning b).phase ≡ shut →
@@ -88,12 +89,10 @@ module _ {S : Type 0} {g : Ghosts S} (meaning : S → Meaning) where
       (opens_not _ f (p.step.answer ∙ ap (λ q. decide (meaning (store_in b)) q open_file) e), ap meaning h ∙ ap (λ m. m.store) p.step.leaves)
 
 -- two lists of calls from the same bytes
-pub compared : {S T : Type 0} {p : Ghosts S} {q : Ghosts T} (f : S → Meaning) (g : T → Meaning) (first : S) (second : T) (cs ds : List Call) (w : Work S p) (v : Work T q) →
-    Worked f first cs w → Worked g second ds v → Compared f g first second cs ds w v
-compared f g first second cs ds (NoMemory s m) v p q = tt
-compared f g first second cs ds (Refused x s m) v p q = tt
-compared f g first second cs ds (Done b s xs) (NoMemory t m) p q = tt
-compared f g first second cs ds (Done b s xs) (Refused x t m) p q = tt
-compared f g first second cs ds (Done b s xs) (Done c t ys) p q = λ e.
-    any_two (f first).bytes (f first).space (g second).space (events_in cs (vec_items xs)) (events_in ds (vec_items ys)) (f (store_in b)).bytes (g (store_in c)).bytes p.delivered
-    (subst (λ x. Delivered x (g second).space (events_in ds (vec_items ys)) (g (store_in c)).bytes) (sym e) q.delivered)
+pub compared : {S T : Type 0} {p : Ghosts S} {q : Ghosts T} (f : S → Meaning) (g : T → Meaning) (first : S) (second : T) (cs ds : List Call) (v : Result (Work S p) (Stopped S WorkError)) (w : Result (Work T q) (Stopped T WorkError)) →
+    Worked f first cs v → Worked g second ds w → Compared f g first second cs ds v w
+compared f g first second cs ds (Ok v) (Ok w) p q = λ e.
+    any_two (f first).bytes (f first).space (g second).space (events_in cs (vec_items v.answers)) (events_in ds (vec_items w.answers)) (f (store_in v.book)).bytes (g (store_in w.book)).bytes p.delivered
+    (subst (λ x. Delivered x (g second).space (events_in ds (vec_items w.answers)) (g (store_in w.book)).bytes) (sym e) q.delivered)
+compared f g first second cs ds (Ok v) (Err e) p q = tt
+compared f g first second cs ds (Err e) w p q = tt

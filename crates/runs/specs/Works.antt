@@ -1,5 +1,5 @@
 -- What a list of calls on a new book leaves.
-use Rattle.std.specs.Prelude.{◌≡◌, Bool, true, false, List, map, length, Err, vec_items}
+use Rattle.std.specs.Prelude.{◌≡◌, Bool, true, false, List, map, length, Ok, Err, vec_items, Result}
 use Rattle.stores.specs.Meanings.{Meaning}
 use Rattle.stores.specs.declared.store.Store.{Ghosts}
 use Rattle.format.specs.Account.{Event}
@@ -13,8 +13,10 @@ use Rattle.book.specs.declared.call.Call.{Call}
 use Rattle.book.specs.declared.slip.Slip.{Slip}
 use Rattle.book.specs.Books.{Sound, moment_of, store_in}
 use Rattle.book.specs.Calls.{call_of}
+use Rattle.runs.specs.declared.outcome.Stopped.{Stopped}
 use Rattle.runs.specs.declared.outcome.Work.{Work}
-use Rattle.runs.specs.declared.outcome.Work.TheVariants.{NoMemory, Refused, Done}
+use Rattle.runs.specs.declared.outcome.WorkError.{WorkError}
+use Rattle.runs.specs.declared.outcome.WorkError.TheVariants.{NoMemory, Refused}
 use Rattle.runs.specs.Made.{Tied}
 
 -- the calls asked, each with its answer
@@ -34,25 +36,31 @@ pub record Finished {S : Type 0} {g : Ghosts S} (meaning : S → Meaning) (was :
   pub sound : Sound meaning b
   pub tied : Tied meaning b s
 
--- A list of calls on a new book round a store. Without memory for the answers nothing is done; where the bytes do not open, the store means what it meant.
-abbrev pub Worked : {S : Type 0} {g : Ghosts S} → (S → Meaning) → S → List Call → Work S g → Type 0
-Worked meaning store calls (NoMemory s m) = s ≡ store
-Worked meaning store calls (Refused f s m) = (opens (meaning store).bytes ≡ Err f) × (meaning s ≡ meaning store)
-Worked meaning store calls (Done b s answers) = Finished meaning (meaning store) calls b s (vec_items answers)
+-- Why no call was made, and the store that comes back: without memory for the answers nothing was done; where the bytes do not open, the
+-- store means what it meant.
+abbrev pub NotWorked : {S : Type 0} → (S → Meaning) → S → WorkError → S → Type 0
+NotWorked meaning store NoMemory s = s ≡ store
+NotWorked meaning store (Refused f) s = (opens (meaning store).bytes ≡ Err f) × (meaning s ≡ meaning store)
+
+-- A list of calls on a new book round a store.
+abbrev pub Worked : {S : Type 0} {g : Ghosts S} → (S → Meaning) → S → List Call → Result (Work S g) (Stopped S WorkError) → Type 0
+Worked meaning store calls (Ok w) = Finished meaning (meaning store) calls w.book w.slip (vec_items w.answers)
+Worked meaning store calls (Err e) = NotWorked meaning store e.cause e.store
 
 -- there was memory for the answers
-abbrev pub had_memory : {S : Type 0} {g : Ghosts S} → Work S g → Bool
-had_memory (NoMemory s m) = false
-had_memory (Refused f s m) = true
-had_memory (Done b s answers) = true
+abbrev pub had_memory_for : WorkError → Bool
+had_memory_for NoMemory = false
+had_memory_for (Refused f) = true
+
+abbrev pub had_memory : {S : Type 0} {g : Ghosts S} → Result (Work S g) (Stopped S WorkError) → Bool
+had_memory (Ok w) = true
+had_memory (Err e) = had_memory_for e.cause
 
 -- Two lists of calls, each on a new book, round stores of any two kinds. Where both were done and both stores had the same opening bytes,
 -- two files that keep equally many opening revisions are equal, byte for byte, exactly when they hold the same updates in the same order.
-abbrev pub Compared : {S T : Type 0} {p : Ghosts S} {q : Ghosts T} → (S → Meaning) → (T → Meaning) → S → T → List Call → List Call → Work S p → Work T q → Type 0
-Compared f g first second cs ds (NoMemory s m) w = Unit {0}
-Compared f g first second cs ds (Refused x s m) w = Unit {0}
-Compared f g first second cs ds (Done b s xs) (NoMemory t m) = Unit {0}
-Compared f g first second cs ds (Done b s xs) (Refused x t m) = Unit {0}
-Compared f g first second cs ds (Done b s xs) (Done c t ys) =
+abbrev pub Compared : {S T : Type 0} {p : Ghosts S} {q : Ghosts T} → (S → Meaning) → (T → Meaning) → S → T → List Call → List Call → Result (Work S p) (Stopped S WorkError) → Result (Work T q) (Stopped T WorkError) → Type 0
+Compared f g first second cs ds (Ok v) (Ok w) =
     (f first).bytes ≡ (g second).bytes →
-    SameExactly (f first).bytes (events_in cs (vec_items xs)) (events_in ds (vec_items ys)) (f (store_in b)).bytes (g (store_in c)).bytes
+    SameExactly (f first).bytes (events_in cs (vec_items v.answers)) (events_in ds (vec_items w.answers)) (f (store_in v.book)).bytes (g (store_in w.book)).bytes
+Compared f g first second cs ds (Ok v) (Err e) = Unit {0}
+Compared f g first second cs ds (Err e) w = Unit {0}

@@ -1,27 +1,18 @@
 // Revisions that are drawn out, opened alone.
 ghost use Rattle.runs.specs.Extracts.{Extracts};
 
+use crate::outcome::Stopped;
 use book::book::{Book, Memory};
 use faults::fault::Fault;
 use stores::store::Store;
 
-// What drawing a revision out leaves.
-pub enum Extract<T: Store> {
+// Why a revision was not drawn out.
+#[derive(Clone, Copy, Debug, PartialEq, Eq)]
+pub enum ExtractError {
     // the store held bytes already, and nothing was done
-    NotEmpty {
-        store: T,
-        memory: Memory,
-    },
+    NotEmpty,
     // the drawing was refused
-    Refused {
-        fault: Fault,
-        store: T,
-        memory: Memory,
-    },
-    // a book of its own, open
-    Opened {
-        book: Book<T>,
-    },
+    Refused(Fault),
 }
 
 // Draws revision k out into a store that holds no bytes, and opens it there by a book of its own.
@@ -33,31 +24,33 @@ pub fn open_alone<S: Store, T: Store>(
     k: usize,
     mut out: T,
     memory: Memory,
-) -> Extract<T>
+) -> Result<Book<T>, Stopped<T, ExtractError>>
     ensures { Extracts S.Store.meaning T.Store.meaning book.now k out result }
 {
     if out.len() > 0 {
-        return Extract::NotEmpty { store: out, memory };
-    }
-    match book.draw(k, &mut out) {
-        Ok(()) => {
-            let mut alone = Book::new(out, memory);
-            match alone.open() {
-                Ok(_) => Extract::Opened { book: alone },
-                Err(fault) => {
-                    let (store, memory) = alone.into_parts();
-                    Extract::Refused {
-                        fault,
-                        store,
-                        memory,
-                    }
-                }
-            }
-        }
-        Err(fault) => Extract::Refused {
-            fault,
+        return Err(Stopped {
             store: out,
             memory,
-        },
+            cause: ExtractError::NotEmpty,
+        });
+    }
+    if let Err(fault) = book.draw(k, &mut out) {
+        return Err(Stopped {
+            store: out,
+            memory,
+            cause: ExtractError::Refused(fault),
+        });
+    }
+    let mut alone = Book::new(out, memory);
+    match alone.open() {
+        Ok(_) => Ok(alone),
+        Err(fault) => {
+            let (store, memory) = alone.into_parts();
+            Err(Stopped {
+                store,
+                memory,
+                cause: ExtractError::Refused(fault),
+            })
+        }
     }
 }

@@ -1,7 +1,7 @@
 // How the files of two lists of calls compare.
 ghost use Rattle.runs.specs.Works.{Compared, Worked};
 
-use crate::outcome::Work;
+use crate::outcome::{Stopped, Work, WorkError};
 use crate::work::work;
 use book::book::Memory;
 use book::call::Call;
@@ -21,7 +21,10 @@ pub fn equal_files_hold_equal_updates<S: Store, T: Store>(
     second: T,
     second_memory: Memory,
     second_calls: &[Call<'_>],
-) -> (Work<S>, Work<T>)
+) -> (
+    Result<Work<S>, Stopped<S, WorkError>>,
+    Result<Work<T>, Stopped<T, WorkError>>,
+)
     ensures one { Worked S.Store.meaning first first_calls.now result.0 }
     ensures other { Worked T.Store.meaning second second_calls.now result.1 }
     ensures compared { Compared S.Store.meaning T.Store.meaning first second first_calls.now second_calls.now result.0 result.1 }

@@ -4,22 +4,27 @@ use book::slip::Slip;
 use faults::fault::Fault;
 use stores::store::Store;
 
-pub enum Work<S: Store> {
-    // there is no memory for the answers, and nothing was done
-    NoMemory {
-        store: S,
-        memory: Memory,
-    },
+// Every call was made, and has its answer; the slip is owed exactly while an update is open.
+//
+// Book and slip are two values, and no invariant ties them here: whoever goes on lends both to the book's own calls, which change one by one.
+pub struct Work<S: Store> {
+    pub book: Book<S>,
+    pub slip: Slip,
+    pub answers: Vec<Result<(), Fault>>,
+}
+
+// Why no call was made.
+#[derive(Clone, Copy, Debug, PartialEq, Eq)]
+pub enum WorkError {
+    // there is no memory for the answers
+    NoMemory,
     // the bytes of the store do not open
-    Refused {
-        fault: Fault,
-        store: S,
-        memory: Memory,
-    },
-    // every call was made, and has its answer; the slip is owed exactly while an update is open
-    Done {
-        book: Book<S>,
-        slip: Slip,
-        answers: Vec<Result<(), Fault>>,
-    },
+    Refused(Fault),
+}
+
+// No book was left: the store and the memory come back, with the cause.
+pub struct Stopped<S, C> {
+    pub store: S,
+    pub memory: Memory,
+    pub cause: C,
 }

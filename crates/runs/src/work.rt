@@ -5,7 +5,7 @@ ghost use Rattle.book.specs.Books.{moment_of, store_in};
 ghost use Rattle.runs.specs.Made.{MakesAll, Tied};
 ghost use Rattle.runs.specs.Works.{Worked, had_memory};
 
-use crate::outcome::Work;
+use crate::outcome::{Stopped, Work, WorkError};
 use crate::step::make_call;
 use book::book::{Book, Memory};
 use book::call::Call;
@@ -37,7 +37,7 @@ fn work_on<S: Store>(
     mut book: Book<S>,
     mut answers: Vec<Result<(), Fault>>,
     calls: &[Call<'_>],
-) -> Work<S>
+) -> Result<Work<S>, Stopped<S, WorkError>>
     requires new { (moment_of S.Store.meaning book).phase ≡ shut }
     requires none { answers.items ≡ [] }
     requires room { length calls.now ≤ vec_capacity answers }
@@ -48,19 +48,19 @@ fn work_on<S: Store>(
         Ok(_) => {
             let mut slip = Slip::spent();
             make_calls(&mut book, &mut slip, calls, &mut answers);
-            Work::Done {
+            Ok(Work {
                 book,
                 slip,
                 answers,
-            }
+            })
         }
         Err(fault) => {
             let (store, memory) = book.into_parts();
-            Work::Refused {
-                fault,
+            Err(Stopped {
                 store,
                 memory,
-            }
+                cause: WorkError::Refused(fault),
+            })
         }
     }
 }
@@ -76,7 +76,7 @@ pub fn work_with<S: Store>(
     memory: Memory,
     calls: &[Call<'_>],
     answers: Vec<Result<(), Fault>>,
-) -> Work<S>
+) -> Result<Work<S>, Stopped<S, WorkError>>
     requires none { answers.items ≡ [] }
     requires room { length calls.now ≤ vec_capacity answers }
     ensures worked { Worked S.Store.meaning store calls.now result }
@@ -86,11 +86,20 @@ pub fn work_with<S: Store>(
 }
 
 // The same, with memory for the answers taken first: where there is none, nothing is done.
-pub fn work<S: Store>(heap: Global, store: S, memory: Memory, calls: &[Call<'_>]) -> Work<S>
+pub fn work<S: Store>(
+    heap: Global,
+    store: S,
+    memory: Memory,
+    calls: &[Call<'_>],
+) -> Result<Work<S>, Stopped<S, WorkError>>
     ensures { Worked S.Store.meaning store calls.now result }
 {
     match Vec::with_capacity(heap, calls.len()) {
         Ok(answers) => work_with(store, memory, calls, answers),
-        Err(_) => Work::NoMemory { store, memory },
+        Err(_) => Err(Stopped {
+            store,
+            memory,
+            cause: WorkError::NoMemory,
+        }),
     }
 }

@@ -7,10 +7,7 @@ use stores::store::Store;
 
 // Begins an update, and hands its slip on: whoever holds it ends the update.
 pub fn begin_for_later<S: Store>(book: &mut Book<S>) -> Option<Slip> {
-    match book.begin() {
-        Ok(slip) => Some(slip),
-        Err(_) => None,
-    }
+    book.begin().ok()
 }
 
 // The slip shown stays with its holder.
@@ -25,9 +22,9 @@ mod tests {
     use book::call::Call;
     use faults::fault::Fault;
     use faults::reason::Reason;
-    use runs::alone::{Extract, open_alone};
+    use runs::alone::{ExtractError, open_alone};
     use runs::close::close;
-    use runs::outcome::Work;
+    use runs::outcome::{Stopped, Work};
     use runs::work::work;
     use std::alloc::Global;
     use std::test::Fail;
@@ -51,6 +48,16 @@ mod tests {
         Ok(store)
     }
 
+    // The cause alone.
+    fn cause<S: Drop, C>(stopped: Stopped<S, C>) -> C {
+        let Stopped {
+            store: _,
+            memory: _,
+            cause,
+        } = stopped;
+        cause
+    }
+
     // What a list of calls on the worked file leaves, in a store of that size: the store, the answers, and whether an update was open.
     fn left(
         heap: Global,
@@ -59,26 +66,14 @@ mod tests {
     ) -> Result<(Flat, Vec<Result<(), Fault>>, bool), Fail> {
         let store = worked(heap, size)?;
         let memory = Memory::new(heap)?;
-        match work(heap, store, memory, calls) {
-            Work::Done {
-                book,
-                slip,
-                answers,
-            } => {
-                let owed = !slip.is_spent();
-                let (store, _memory) = close(book, slip);
-                Ok((store, answers, owed))
-            }
-            Work::Refused {
-                fault: _,
-                store: _,
-                memory: _,
-            } => Err("refused".into()),
-            Work::NoMemory {
-                store: _,
-                memory: _,
-            } => Err("no memory".into()),
-        }
+        let Work {
+            book,
+            slip,
+            answers,
+        } = work(heap, store, memory, calls).map_err(cause)?;
+        let owed = !slip.is_spent();
+        let (store, _memory) = close(book, slip);
+        Ok((store, answers, owed))
     }
 
     fn put(number: usize, body: &[u8]) -> Call<'_> {
@@ -191,40 +186,21 @@ mod tests {
         let out = empty(heap, 400)?;
         let more = Memory::new(heap)?;
         let calls = [Call::Begin, put(3, b"7"), Call::Commit { spent: false }];
-        match work(heap, store, memory, &calls) {
-            Work::Done {
-                book,
-                slip,
-                answers: _,
-            } => {
-                let drawn = open_alone(&book, k, out, more);
-                let (_store, _memory) = close(book, slip);
-                match drawn {
-                    Extract::Opened { book: alone } => {
-                        let count = alone.revisions();
-                        let (_out, _more) = alone.into_parts();
-                        Ok(count)
-                    }
-                    Extract::Refused {
-                        fault,
-                        store: _,
-                        memory: _,
-                    } => Ok(Err(fault)),
-                    Extract::NotEmpty {
-                        store: _,
-                        memory: _,
-                    } => Err("not empty".into()),
-                }
+        let Work {
+            book,
+            slip,
+            answers: _,
+        } = work(heap, store, memory, &calls).map_err(cause)?;
+        let drawn = open_alone(&book, k, out, more);
+        let (_store, _memory) = close(book, slip);
+        match drawn.map_err(cause) {
+            Ok(alone) => {
+                let count = alone.revisions();
+                let (_out, _more) = alone.into_parts();
+                Ok(count)
             }
-            Work::Refused {
-                fault: _,
-                store: _,
-                memory: _,
-            } => Err("refused".into()),
-            Work::NoMemory {
-                store: _,
-                memory: _,
-            } => Err("no memory".into()),
+            Err(ExtractError::Refused(fault)) => Ok(Err(fault)),
+            Err(ExtractError::NotEmpty) => Err("not empty".into()),
         }
     }
 

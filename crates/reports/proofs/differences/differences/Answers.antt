@@ -4,8 +4,8 @@ use Rattle.std.proofs.lemmas.Result.{err_from_is_err_and}
 use Rattle.book.specs.Books.{moment_of}
 use Rattle.reports.specs.declared.trouble.Trouble.TheVariants.{Refused}
 use Rattle.reports.specs.Differences.{Differs, pairs_of}
-use Rattle.reports.proofs.Between.{list_shows, refused_first, refused_second, behind, differ_shows, all_shown, behind_none, none_listed, one_listed}
-use Rattle.reports.proofs.differences.differences.Goals.{in-Some, in-None}
+use Rattle.reports.proofs.Between.{list_shows, refused_first, refused_second, behind, differ_shows, all_shown, behind_none, none_if, none_listed, one_listed}
+use Rattle.reports.proofs.differences.differences.Goals.{in-Some, in_default}
 use Rattle.reports.proofs.differences.differences.Goals as goal
 
 pub returns-in_err-earlier : goal.returns-in_err-earlier
@@ -59,8 +59,8 @@ loop-n-preserved g c =
             omega (arith, s, w.push_reserved.ensures.capacity, c.loop-n.invariant.1),
             ap (λ t. pairs_of t ++ behind m j k count (n + 1)) v ∙ (sym (one_listed m j k count n cs w.in-Some.difference (omega arith) f) ∙ c.loop-n.invariant.2),
           )
-      | in-None w ↦
-          let f = sym e ∙ w.in-None.is in
+      | in_default w ↦
+          let f = sym e ∙ none_if _ w.in_default.not-Some in
           let l = ap vec_len w.all-is in
           let s = ap vec_capacity w.all-is in
           let v = ap vec_items w.all-is in (

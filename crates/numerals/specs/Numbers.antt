@@ -1,4 +1,4 @@
--- Numbers as a command line writes them.
+-- Numbers as a command writes them.
 use Rattle.std.specs.Prelude.{◌≡◌, ℕ, ◌<◌, ◌≤◌, List, length}
 use Rattle.std.specs.Str.Parse.{AllDigits, digits_value}
 
