@@ -28,7 +28,7 @@ impl Drop for Trial<'_> {
     }
 }
 
-// The next token, if it can be read, and the place moves behind it.
+// The next token, if it can be read, and the place moves behind it. The guard holds the place and not the lexer, so `Lexer::next` cannot be called under it.
 fn take<'a>(src: &'a [u8], place: &mut usize) -> Option<Token<'a>>
     requires { place.old ≤ length src.now }
     ensures is { Takes src.now place.old place.new result }

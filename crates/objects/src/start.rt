@@ -22,7 +22,7 @@ pub enum Start {
     Dictionary { mark: usize, inside: usize },
 }
 
-// `true`, `false` and `null`.
+// `true`, `false` and `null`, tested in turn: a match over byte strings can be left at any of their bytes, and each way out of it is a proof of its own.
 fn word_shape(word: &[u8]) -> Option<Shape>
     ensures { result ≡ word_shape word.now }
 {
