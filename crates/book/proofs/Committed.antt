@@ -25,7 +25,7 @@ use Rattle.locality.proofs.Local.{same_value}
 use Rattle.records.specs.Links.{link_of, link_at, is_first, next_revision}
 use Rattle.records.specs.Tabled.{Revised, Tabled, revisions_held, cells_held}
 use Rattle.writer.specs.Helds.{update_of}
-use Rattle.records.specs.Trailers.{TrailerSeen}
+use Rattle.records.specs.Trailers.{TrailerSeen, ReadsTrailer}
 use Rattle.writer.specs.Trailers.{ReadAs}
 use Rattle.writer.specs.Writers.{bytes_of}
 use Rattle.bounds.proofs.Bounded.{bounded}
@@ -40,8 +40,13 @@ use Rattle.book.proofs.Performed.{performs_at, updating_sound, updating_phase}
 use Rattle.book.proofs.Steps.{at, commit_step}
 
 -- the newest section cannot be refused
-pub newest_reads : (file : Bytes) (off : ℕ) (f : Fault) → NewestSection file → (newest file).offset ≡ off → section_in file off ≡ bad f → ⊥
+newest_reads : (file : Bytes) (off : ℕ) (f : Fault) → NewestSection file → (newest file).offset ≡ off → section_in file off ≡ bad f → ⊥
 newest_reads file off f n e b = never_reading (sym b ∙ ap (section_in file) (sym e) ∙ n.read)
+
+-- so its trailer is read
+pub newest_is_read : (file : Bytes) (off : ℕ) (seen : Bytes) (r : Result ℕ Fault) → NewestSection file → (newest file).offset ≡ off → ReadsTrailer file off seen r → ((x : ℕ) → r ≡ Ok x → ⊥) → ⊥
+newest_is_read file off seen (Ok x) n e t h = h x refl
+newest_is_read file off seen (Err f) n e b h = newest_reads file off f n e b
 
 -- the entries in the window are those of the newest trailer
 pub newest_trailer : (file : Bytes) (off : ℕ) (seen : Bytes) (inside : ℕ) → NewestSection file → (newest file).offset ≡ off → TrailerSeen file off seen inside → ReadAs seen inside (newest file).trailer

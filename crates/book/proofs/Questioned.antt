@@ -1,6 +1,7 @@
 -- What a book's rows and cells answer to its questions.
-use Rattle.std.proofs.Common.{◌≡◌, ℕ, ◌+◌, ◌-◌, ◌<◌, ◌≤◌, true, false, leb, List, length, get_or, Some, None, Ok, Err, Option, refl, ap, ◌∙◌, ⊎_elim, arith}
+use Rattle.std.proofs.Common.{◌≡◌, ℕ, ◌+◌, ◌-◌, ◌<◌, ◌≤◌, true, false, cond, not, leb, List, ◌∷◌, length, get_or, Some, None, Ok, Err, Option, count_by, ok_or, refl, ap, ◌∙◌, ⊎_elim, arith}
 use Rattle.std.proofs.lemmas.List.{get_or_default}
+use Rattle.std.proofs.lemmas.List.Recursion.{is_count_by}
 use Rattle.std.proofs.lemmas.Bool.{cases_lt, le-leb, lt-leb}
 use Rattle.faults.specs.declared.fault.Fault.{Fault}
 use Rattle.faults.specs.declared.reason.Reason.TheVariants.{BookShut, NoRevision, NotInUse, ShortBuffer}
@@ -10,13 +11,15 @@ use Rattle.format.specs.Book.{Phase, shut, standing, updating, Moment, revision_
 use Rattle.format.specs.Bytes.{Bytes}
 use Rattle.format.specs.Chain.{Answer, also, must}
 use Rattle.format.specs.Revisions as format
+use Rattle.format.specs.Updates.{Update}
 use Rattle.format.specs.Questions.{is_shut, ask_history, ask_revision, ask_list, ask_fetch, ask_draw}
 use Rattle.entries.specs.Cells.{part}
 use Rattle.entries.specs.declared.cell.Cell.{Cell}
 use Rattle.entries.specs.declared.cell.Cell.TheVariants.{Used, Free}
 use Rattle.entries.specs.declared.revision.Revision.{Revision}
-use Rattle.keeping.specs.Answering.{OpenBook, fetched_from}
-use Rattle.book.specs.Rows.{is_free, NotUsed}
+use Rattle.keeping.specs.Answering.{OpenBook, used_among, fetched_from}
+use Rattle.book.specs.Asked.{RowAsked}
+use Rattle.book.specs.Rows.{is_free, BodyFound, Found, NotUsed}
 use Rattle.keeping.specs.Standing.{Stands, SoundIn}
 use Rattle.keeping.specs.Staying.{RowAt}
 use Rattle.keeping.specs.Telling.{NoRow, CellAt}
@@ -25,9 +28,18 @@ use Rattle.keeping.proofs.Told.{tables_tell}
 use Rattle.stores.specs.Meanings.{Meaning}
 use Rattle.stores.specs.declared.store.Store.{Ghosts}
 use Rattle.book.specs.declared.book.Book.{Book}
-use Rattle.book.specs.declared.call.Phase.TheVariants.{Standing}
+use Rattle.book.specs.declared.call.Phase as phases
+use Rattle.book.specs.declared.call.Phase.TheVariants.{Shut, Standing, Updating}
+use Rattle.book.specs.declared.rows.Body.{Body}
 use Rattle.book.specs.Calls.{phase_of}
 use Rattle.book.specs.Books.{update_in, moment_of, revisions_in, cells_in, Sound}
+
+-- a book that is not in its first state is open
+pub not_shut : (p : phases.Phase) (u : Update) → (p ≡ Shut → ⊥) → false ≡ is_shut (phase_of p u)
+unfolding is_shut
+not_shut Shut u h = absurd (h refl)
+not_shut Standing u h = refl
+not_shut Updating u h = refl
 
 refuses : {A B : Type 0} (a : Answer A) (k : A → Answer B) (f : Fault) → a ≡ Err f → also a k ≡ Err f
 refuses a k f e = ap (λ z. also z k) e
@@ -57,6 +69,20 @@ no_row m rs cs n k b absent =
     let shown : ask_history m n ≡ Ok (history m.store.bytes) = shown_history m n b.unshut in
     ap (λ z. also z (sought n k)) shown ∙ ap (given n) none
 
+-- what is looked for is there, or not
+pub no_row_found : (rs : List Revision) (k : ℕ) (o : Option Revision) → Found rs k o → ((q : Revision) → o ≡ Some q → ⊥) → NoRow rs k
+no_row_found rs k None f h = f
+no_row_found rs k (Some q) f h = absurd (h q refl)
+
+pub no_body_found : (cs : List Cell) (q : Revision) (n : ℕ) (o : Option Body) → BodyFound cs q n o → ((b : Body) → o ≡ Some b → ⊥) → NotUsed cs q n
+no_body_found cs q n None f h = f
+no_body_found cs q n (Some b) f h = absurd (h b refl)
+
+-- the row that is looked for, or what refuses the question
+pub row_asked : (m : Moment) (rs : List Revision) (cs : List Cell) (n k : ℕ) (o : Option Revision) → OpenBook m rs cs → Found rs k o → RowAsked m rs cs n k (ok_or o (refused NoRevision n))
+row_asked m rs cs n k None b f = no_row m rs cs n k b f
+row_asked m rs cs n k (Some q) b f = (b, f)
+
 -- a question about a revision that is refused
 pub list_refused : (m : Moment) (k : ℕ) (f : Fault) → ask_revision m 0 k ≡ Err f → ask_list m k ≡ Err f
 unfolding ask_list
@@ -85,6 +111,14 @@ open_book meaning b s h =
 -- the cells of a row are among those of the tables
 pub row_within : (m : Moment) (rs : List Revision) (cs : List Cell) (k : ℕ) (q : Revision) → OpenBook m rs cs → RowAt rs k q → q.first + q.size ≤ length cs
 row_within m rs cs k q b a = ((tables_tell m.store.bytes b.opened.history rs cs b.tables).row k q a).2.within
+
+-- the cells in use, counted one after the other
+pub used_counted : (cs : List Cell) → used_among cs ≡ count_by (λ c. not (is_free c)) cs
+used_counted = is_count_by used_among (λ c. not (is_free c)) refl step
+  where
+    step : (c : Cell) (cs : List Cell) → used_among (c ∷ cs) ≡ cond (not (is_free c)) (1 + used_among cs) (used_among cs)
+    step (Used g s e) cs = refl
+    step (Free g n) cs = omega arith
 
 -- fetch of a number that is not in use
 pub unused : (m : Moment) (rs : List Revision) (cs : List Cell) (k n room : ℕ) (q : Revision) → OpenBook m rs cs → RowAt rs k q → NotUsed cs q n → ask_fetch m k n room ≡ Err (refused NotInUse n)

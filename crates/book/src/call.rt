@@ -1,7 +1,6 @@
 // The states of a book, and the calls that can change it.
 ghost use Rattle.std.specs.Prelude.{◌≡◌};
-ghost use Rattle.format.specs.Book.{abandon, back, begin, commit, open_file, remove};
-ghost use Rattle.book.specs.Calls.{Refuses, call_of, number_of, obstacle, shows_spent};
+ghost use Rattle.book.specs.Calls.{Refuses, number_of, obstacle, shows_spent};
 
 use faults::fault::Fault;
 use faults::reason::Reason;
@@ -39,55 +38,13 @@ pub enum Call<'a> {
     },
 }
 
-// The calls that carry no bytes, each made by a function of its own: no reference is lent for them.
-pub(crate) fn opening() -> Call<'static>
-    ensures { call_of result ≡ open_file }
-{
-    Call::Open
-}
-
-pub(crate) fn beginning() -> Call<'static>
-    ensures { call_of result ≡ begin }
-{
-    Call::Begin
-}
-
-pub(crate) fn removal(spent: bool, number: usize) -> Call<'static>
-    ensures { call_of result ≡ remove spent number }
-{
-    Call::Remove { spent, number }
-}
-
-pub(crate) fn committing(spent: bool) -> Call<'static>
-    ensures { call_of result ≡ commit spent }
-{
-    Call::Commit { spent }
-}
-
-pub(crate) fn abandoning(spent: bool) -> Call<'static>
-    ensures { call_of result ≡ abandon spent }
-{
-    Call::Abandon { spent }
-}
-
-pub(crate) fn going_back(revision: usize) -> Call<'static>
-    ensures { call_of result ≡ back revision }
-{
-    Call::Back { revision }
-}
-
 impl Call<'_> {
     // The number that the call names, 0 if none.
     pub fn number(&self) -> usize
         ensures { result ≡ number_of self.now }
     {
         match self {
-            Call::Put {
-                spent: _,
-                number,
-                body: _,
-            } => *number,
-            Call::Remove { spent: _, number } => *number,
+            Call::Put { number, .. } | Call::Remove { number, .. } => *number,
             _ => 0,
         }
     }
@@ -97,14 +54,10 @@ impl Call<'_> {
         ensures { result ≡ shows_spent self.now }
     {
         match self {
-            Call::Put {
-                spent,
-                number: _,
-                body: _,
-            } => *spent,
-            Call::Remove { spent, number: _ } => *spent,
-            Call::Commit { spent } => *spent,
-            Call::Abandon { spent } => *spent,
+            Call::Put { spent, .. }
+            | Call::Remove { spent, .. }
+            | Call::Commit { spent }
+            | Call::Abandon { spent } => *spent,
             _ => false,
         }
     }
@@ -129,7 +82,7 @@ impl Call<'_> {
             Phase::Updating => match self {
                 Call::Open => Reason::OpenAlready,
                 Call::Begin => Reason::UpdateOpen,
-                Call::Back { revision: _ } => Reason::UpdateOpen,
+                Call::Back { .. } => Reason::UpdateOpen,
                 _ => Reason::SlipSpent,
             },
         }

@@ -1,9 +1,9 @@
 // The rows and the cells of the tables, for the questions.
-ghost use Rattle.std.specs.Prelude.{◌≡◌, ◌+◌, ◌≤◌, length, take, drop};
+ghost use Rattle.std.specs.Prelude.{◌≡◌, ◌+◌, ◌≤◌, length, take, drop, not, count_by};
 ghost use Rattle.entries.specs.Tables.{cells_of};
 ghost use Rattle.keeping.specs.Staying.{RowAt};
-ghost use Rattle.keeping.specs.Answering.{used_among, used_one};
-ghost use Rattle.book.specs.Rows.{BodyFound, Found};
+ghost use Rattle.keeping.specs.Answering.{used_among};
+ghost use Rattle.book.specs.Rows.{BodyFound, Found, is_free};
 
 use entries::cell::Cell;
 use entries::revision::Revision;
@@ -12,14 +12,10 @@ use entries::revision::Revision;
 pub fn row_of(revisions: &[Revision], k: usize) -> Option<Revision>
     ensures { Found revisions.now k result }
 {
-    if k == 0 || k > revisions.len() {
-        None
-    } else {
-        Some(revisions[k - 1])
-    }
+    revisions.get(k.checked_sub(1)?).copied()
 }
 
-// The row of the newest revision.
+// The row of the newest revision. There is one, so it is read in place: `last` would only wrap it.
 pub fn last_row(revisions: &[Revision]) -> Revision
     requires { 1 ≤ length revisions.now }
     ensures { RowAt revisions.now (length revisions.now) result }
@@ -58,41 +54,32 @@ pub fn body_of(cells: &[Cell], row: Revision, n: usize) -> Option<Body>
     requires { row.first + row.size ≤ length cells.now }
     ensures { BodyFound cells.now row n result }
 {
-    if n >= row.size {
+    let Cell::Used {
+        generation,
+        start,
+        end,
+    } = *cells_of(cells, row).get(n)?
+    else {
         return None;
-    }
-    match cells[row.first + n] {
-        Cell::Used {
-            generation,
-            start,
-            end,
-        } => Some(Body {
-            generation,
-            start,
-            end,
-        }),
-        Cell::Free {
-            generation: _,
-            next: _,
-        } => None,
-    }
+    };
+    Some(Body {
+        generation,
+        start,
+        end,
+    })
 }
 
-fn is_used(cell: Cell) -> usize
-    ensures is { result ≡ used_one cell }
-    ensures small { result ≤ 1 }
+fn is_used(cell: &Cell) -> bool
+    ensures { result ≡ not (is_free cell.now) }
 {
-    match cell {
-        Cell::Used {
-            generation: _,
-            start: _,
-            end: _,
-        } => 1,
-        Cell::Free {
-            generation: _,
-            next: _,
-        } => 0,
-    }
+    matches!(cell, Cell::Used { .. })
+}
+
+// How many cells are in use.
+fn used_in(cells: &[Cell]) -> usize
+    ensures { result ≡ count_by (λ c. not (is_free c)) cells.now }
+{
+    cells.iter().filter(|cell| is_used(cell)).count()
 }
 
 // How many of `size` cells from `first` on are in use.
@@ -100,9 +87,5 @@ pub fn count_used(cells: &[Cell], first: usize, size: usize) -> usize
     requires { first + size ≤ length cells.now }
     ensures { result ≡ used_among (take size (drop first cells.now)) }
 {
-    let mut count = 0;
-    for i in 0..size {
-        count += is_used(cells[first + i]);
-    }
-    count
+    used_in(&cells[first..first + size])
 }

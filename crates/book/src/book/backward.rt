@@ -16,14 +16,12 @@ impl<S: Store> Book<S> {
         requires { self.old.phase ≡ Standing }
         ensures { Performs S.Store.meaning self.old (back k) result self.new }
     {
-        match row_of(self.memory.tables.revisions(), k) {
-            None => Err(Fault::refused(Reason::NoRevision, 0)),
-            Some(row) => {
-                let cells = cells_end(self.memory.tables.cells(), row);
-                let _ = self.store.cut(row.end);
-                self.memory.tables.cut(k, cells);
-                Ok(())
-            }
-        }
+        let Some(row) = row_of(self.memory.tables.revisions(), k) else {
+            return Err(Fault::refused(Reason::NoRevision, 0));
+        };
+        let cells = cells_end(self.memory.tables.cells(), row);
+        let _ = self.store.cut(row.end);
+        self.memory.tables.cut(k, cells);
+        Ok(())
     }
 }

@@ -5,7 +5,7 @@ ghost use Rattle.book.specs.Books.{Performs, done, store_in};
 ghost use Rattle.book.specs.Slips.{is_spent};
 
 use super::Book;
-use crate::call::{Call, abandoning, beginning, committing, going_back, opening, removal};
+use crate::call::Call;
 use crate::slip::Slip;
 use faults::fault::Fault;
 use stores::store::Store;
@@ -16,7 +16,7 @@ impl<S: Store> Book<S> {
         ensures performs { Performs S.Store.meaning self.old open_file (done result) self.new }
         ensures counted { IfOk result (λ k. k ≡ length (history (S.Store.meaning (store_in self.new)).bytes)) }
     {
-        self.perform(&opening())?;
+        self.perform(&Call::Open)?;
         Ok(self.memory.tables.len())
     }
 
@@ -25,7 +25,7 @@ impl<S: Store> Book<S> {
         ensures performs { Performs S.Store.meaning self.old begin (done result) self.new }
         ensures owed { IfOk result (λ slip. is_spent slip ≡ false) }
     {
-        self.perform(&beginning())?;
+        self.perform(&Call::Begin)?;
         Ok(Slip::owed())
     }
 
@@ -46,7 +46,7 @@ impl<S: Store> Book<S> {
         ensures { Performs S.Store.meaning self.old (remove (is_spent slip.now) number) result self.new }
     {
         let spent = slip.is_spent();
-        self.perform(&removal(spent, number))
+        self.perform(&Call::Remove { spent, number })
     }
 
     // Writes the open update behind the file, spends the slip, and answers how many revisions there are then.
@@ -56,7 +56,7 @@ impl<S: Store> Book<S> {
         ensures slip { is_spent slip.new ≡ spent_after (commit (is_spent slip.old)) (done result) (is_spent slip.old) }
     {
         let spent = slip.is_spent();
-        self.perform(&committing(spent))?;
+        self.perform(&Call::Commit { spent })?;
         slip.spend();
         Ok(self.memory.tables.len())
     }
@@ -67,7 +67,7 @@ impl<S: Store> Book<S> {
         ensures slip { is_spent slip.new ≡ spent_after (abandon (is_spent slip.old)) result (is_spent slip.old) }
     {
         let spent = slip.is_spent();
-        self.perform(&abandoning(spent))?;
+        self.perform(&Call::Abandon { spent })?;
         slip.spend();
         Ok(())
     }
@@ -76,6 +76,6 @@ impl<S: Store> Book<S> {
     pub fn back(&mut self, k: usize) -> Result<(), Fault>
         ensures { Performs S.Store.meaning self.old (back k) result self.new }
     {
-        self.perform(&going_back(k))
+        self.perform(&Call::Back { revision: k })
     }
 }

@@ -50,9 +50,8 @@ impl<S: Store> Book<S> {
         ensures { Drafts S.Store.meaning self.old result self.new }
     {
         let row = last_row(self.memory.tables.revisions());
-        let inside = match read_trailer(&self.store, &mut self.memory.scratch, row.offset) {
-            Ok(place) => place,
-            Err(_) => unreachable(),
+        let Ok(inside) = read_trailer(&self.store, &mut self.memory.scratch, row.offset) else {
+            unreachable()
         };
         let cells = cells_of(self.memory.tables.cells(), row);
         let newest = Newest {

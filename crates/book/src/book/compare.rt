@@ -36,21 +36,17 @@ fn compare<S: Store>(store: &S, before: Option<Body>, after: Option<Body>) -> Op
     requires second { LiesIf (S.Store.meaning store.now).bytes after }
     ensures { result ≡ became (body_in (S.Store.meaning store.now).bytes before) (body_in (S.Store.meaning store.now).bytes after) }
 {
-    match before {
-        None => match after {
-            None => None,
-            Some(_) => Some(Difference::Added),
-        },
-        Some(a) => match after {
-            None => Some(Difference::Withdrawn),
-            Some(b) => {
-                if same_object(store, a, b) {
-                    None
-                } else {
-                    Some(Difference::Changed)
-                }
+    match (before, after) {
+        (None, None) => None,
+        (None, Some(_)) => Some(Difference::Added),
+        (Some(_), None) => Some(Difference::Withdrawn),
+        (Some(a), Some(b)) => {
+            if same_object(store, a, b) {
+                None
+            } else {
+                Some(Difference::Changed)
             }
-        },
+        }
     }
 }
 

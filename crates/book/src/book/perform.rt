@@ -9,7 +9,7 @@ use faults::fault::Fault;
 use stores::store::Store;
 
 impl<S: Store> Book<S> {
-    // What a call does follows from the state and the call together.
+    // What a call does follows from the state and the call together, so both are matched here.
     pub(super) fn perform(&mut self, call: &Call<'_>) -> Result<(), Fault>
         ensures { Performs S.Store.meaning self.old (call_of call.now) result self.new }
     {
@@ -28,14 +28,10 @@ impl<S: Store> Book<S> {
                     return Err(call.refusal(Phase::Updating));
                 }
                 match call {
-                    Call::Put {
-                        spent: _,
-                        number,
-                        body,
-                    } => self.hold_body(*number, body),
-                    Call::Remove { spent: _, number } => self.hold_removal(*number),
-                    Call::Commit { spent: _ } => self.write(),
-                    Call::Abandon { spent: _ } => Ok(self.let_go()),
+                    Call::Put { number, body, .. } => self.hold_body(*number, body),
+                    Call::Remove { number, .. } => self.hold_removal(*number),
+                    Call::Commit { .. } => self.write(),
+                    Call::Abandon { .. } => Ok(self.let_go()),
                     _ => Err(call.refusal(Phase::Updating)),
                 }
             }

@@ -52,13 +52,11 @@ impl<S: Store> Book<S> {
         ensures { Fetches (moment_of S.Store.meaning self.now) k n buffer.old result buffer.new }
     {
         let row = self.row(k, n)?;
-        match body_of(self.memory.tables.cells(), row, n) {
-            Some(body) => {
-                let length = body_into(&self.store, body.start, body.end, n, buffer)?;
-                Ok((body.generation, length))
-            }
-            None => Err(Fault::refused(Reason::NotInUse, n)),
-        }
+        let Some(body) = body_of(self.memory.tables.cells(), row, n) else {
+            return Err(Fault::refused(Reason::NotInUse, n));
+        };
+        let length = body_into(&self.store, body.start, body.end, n, buffer)?;
+        Ok((body.generation, length))
     }
 
     // Joins the bytes up to revision k's end behind those of a second store, if its space suffices.
@@ -80,20 +78,13 @@ impl<S: Store> Book<S> {
         if self.is_shut() {
             return Err(Fault::refused(Reason::BookShut, object));
         }
-        match row_of(self.memory.tables.revisions(), k) {
-            Some(row) => Ok(row),
-            None => Err(Fault::refused(Reason::NoRevision, object)),
-        }
+        row_of(self.memory.tables.revisions(), k).ok_or(Fault::refused(Reason::NoRevision, object))
     }
 
     // Whether it has not been opened.
     pub fn is_shut(&self) -> bool
         ensures { result ≡ is_shut (moment_of S.Store.meaning self.now).phase }
     {
-        match self.phase {
-            Phase::Shut => true,
-            Phase::Standing => false,
-            Phase::Updating => false,
-        }
+        matches!(self.phase, Phase::Shut)
     }
 }

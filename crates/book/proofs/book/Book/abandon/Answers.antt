@@ -9,11 +9,11 @@ unfolding spent_after
 returns-in_err-perform g c =
     let p = err_from_is_err_and c.from_residual.result c.from_residual.ensures.1 in
     let z : c.from_residual.result ≡ Err c.in_err-perform.field-0.0 = cc in
-    let k = c.abandoning.ensures ∙ ap abandon c.is_spent-spent.ensures in
+    let k = ap abandon c.is_spent-spent.ensures in
     rw z (record { performs = subst (λ x. Performs g.S.Store.meaning c.args.self.now x (Err c.in_err-perform.field-0.0) c.perform.new.self) k c.in_err-perform.ensures; slip = refl })
 
 pub returns : goal.returns
 unfolding spent_after
 returns g c =
-    let k = c.abandoning.ensures ∙ ap abandon c.is_spent-spent.ensures in
+    let k = ap abandon c.is_spent-spent.ensures in
     record { performs = subst (λ x. Performs g.S.Store.meaning c.args.self.now x (Ok tt) c.perform.new.self) k c.in_ok-perform.ensures; slip = c.spend.ensures }

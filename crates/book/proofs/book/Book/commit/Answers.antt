@@ -10,13 +10,13 @@ unfolding spent_after
 returns-in_err-perform g c =
     let p = err_from_is_err_and c.from_residual.result c.from_residual.ensures.1 in
     let z : c.from_residual.result ≡ Err c.in_err-perform.field-0.0 = cc in
-    let k = c.committing.ensures ∙ ap commit c.is_spent-spent.ensures in
+    let k = ap commit c.is_spent-spent.ensures in
     rw z (record { performs = subst (λ x. Performs g.S.Store.meaning c.args.self.now x (Err c.in_err-perform.field-0.0) c.perform.new.self) k c.in_err-perform.ensures; counted = tt; slip = refl })
 
 pub returns : goal.returns
 unfolding spent_after phase_after
 returns g c =
-    let k = c.committing.ensures ∙ ap commit c.is_spent-spent.ensures in
+    let k = ap commit c.is_spent-spent.ensures in
     let p = subst (λ x. Performs g.S.Store.meaning c.args.self.now x (Ok tt) c.perform.new.self) k c.in_ok-perform.ensures in
     let open-now = stands_after g.S.Store.meaning c.args.self.now c.perform.new.self _ refl p in
     record { performs = p; counted = c.len.ensures ∙ rows_counted g.S.Store.meaning c.perform.new.self p.sound open-now; slip = c.spend.ensures }

@@ -9,7 +9,7 @@ use Rattle.writer.specs.Plans.{GenerationsFit}
 use Rattle.writer.proofs.Copied.{reads}
 use Rattle.bounds.proofs.Bounded.{bounded}
 use Rattle.book.specs.Books.{update_in, revisions_in, cells_in}
-use Rattle.book.proofs.Committed.{newest_reads, newest_trailer}
+use Rattle.book.proofs.Committed.{newest_is_read, newest_trailer}
 use Rattle.book.proofs.Performed.{updating_sound, some_row, row_inside, newest_offset, newest_table, newest_place}
 use Rattle.book.proofs.book.Book.draft.Goals as goal
 
@@ -20,9 +20,9 @@ pub unreachable-requires : goal.unreachable-requires
 unreachable-requires g c =
     let f = (g.S.Store.meaning c.args.self.now.store).bytes in
     let st = (updating_sound g.S.Store.meaning c.args.self.now c.args.self.now.sound c.requires).0 in
-    newest_reads f c.last_row-row.result.offset c.in-Err.field-0 (newest_section f st.opened st.accepted)
+    newest_is_read f c.last_row-row.result.offset _ c.read_trailer.result (newest_section f st.opened st.accepted)
     (newest_place g.S.Store.meaning c.args.self.now c.args.self.now.sound c.requires _ c.revisions.ensures c.last_row-row.result c.last_row-row.ensures)
-    c.in-Err.ensures.is
+    c.read_trailer.ensures.is c.in_default.not-Ok
 
 pub cells_of-cells-requires : goal.cells_of-cells-requires
 cells_of-cells-requires g c = row_inside g.S.Store.meaning c.args.self.now c.args.self.now.sound c.requires _ c.revisions.ensures c.last_row-row.result c.last_row-row.ensures _ c.cells.ensures
@@ -37,7 +37,7 @@ invariant_of-newest g c =
     let o = newest_offset g.S.Store.meaning c.args.self.now c.args.self.now.sound c.requires _ c.revisions.ensures c.last_row-row.result c.last_row-row.ensures _ c.cells.ensures in
     let a = subst (λ rs. RowAt rs (length rs) c.last_row-row.result) c.revisions.ensures c.last_row-row.ensures in
     let cells_are = c.cells_of-cells.ensures ∙ ap (λ cs. cells_of cs c.last_row-row.result) c.cells.ensures in
-    let seen = subst (λ w. TrailerSeen f c.last_row-row.result.offset w c.in-Ok.place) (sym c.seen.ensures) c.in-Ok.ensures.is in
+    let seen = subst (λ w. TrailerSeen f c.last_row-row.result.offset w c.in-Ok.inside) (sym c.seen.ensures) c.in-Ok.ensures.is in
     record {
       small = omega (arith, t.size, known.size);
       generations = subst GenerationsFit (sym cells_are) (known.generations c.last_row-row.result a);
@@ -55,8 +55,8 @@ returns g c =
     let st = (updating_sound g.S.Store.meaning c.args.self.now c.args.self.now.sound c.requires).0 in
     let t = newest_table g.S.Store.meaning c.args.self.now c.args.self.now.sound c.requires _ c.revisions.ensures c.last_row-row.result c.last_row-row.ensures _ c.cells.ensures _ c.cells_of-cells.ensures in
     let o = newest_offset g.S.Store.meaning c.args.self.now c.args.self.now.sound c.requires _ c.revisions.ensures c.last_row-row.result c.last_row-row.ensures _ c.cells.ensures in
-    let seen = subst (λ w. TrailerSeen f c.last_row-row.result.offset w c.in-Ok.place) (sym c.seen.ensures) c.in-Ok.ensures.is in
-    let w = c.write.ensures f (newest f) t o (newest_trailer f c.last_row-row.result.offset _ c.in-Ok.place (newest_section f st.opened st.accepted) o seen) in
+    let seen = subst (λ w. TrailerSeen f c.last_row-row.result.offset w c.in-Ok.inside) (sym c.seen.ensures) c.in-Ok.ensures.is in
+    let w = c.write.ensures f (newest f) t o (newest_trailer f c.last_row-row.result.offset _ c.in-Ok.inside (newest_section f st.opened st.accepted) o seen) in
     record {
       store = refl;
       phase = refl;

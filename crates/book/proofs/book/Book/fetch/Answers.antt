@@ -1,11 +1,11 @@
-use Rattle.std.proofs.Common.{◌≡◌, ◌-◌, length, Some, None, Err, sym, refl, ap, ◌∙◌, subst, arith, length-drop, length-take}
+use Rattle.std.proofs.Common.{◌≡◌, ◌-◌, length, Some, Err, sym, refl, ap, ◌∙◌, subst, arith, length-drop, length-take}
 use Rattle.std.proofs.lemmas.Result.{err_from_is_err_and}
 use Rattle.keeping.proofs.Asked.{fetch_cells}
 use Rattle.entries.specs.Cells.{part}
 use Rattle.book.specs.Books.{moment_of, revisions_in, cells_in}
 use Rattle.book.specs.Copies.{BodyInto}
 use Rattle.book.specs.Rows.{BodyFound}
-use Rattle.book.proofs.Questioned.{fetch_refused, row_within, unused, too_short, fetched}
+use Rattle.book.proofs.Questioned.{fetch_refused, no_body_found, row_within, unused, too_short, fetched}
 use Rattle.book.proofs.book.Book.fetch.Goals as goal
 
 pub returns-in_err-row : goal.returns-in_err-row
@@ -29,30 +29,31 @@ body_into-requires g c =
     let e = (fetch_cells m (revisions_in c.args.self.now) (cells_in c.args.self.now) c.args.k c.args.n 0 r.0).ends c.in_ok-row.row _ r.1 a in
     record { order = e.0; inside = e.1 }
 
-pub returns-in_err-length-in-Some : goal.returns-in_err-length-in-Some
-returns-in_err-length-in-Some g c =
+pub returns-in_err-length : goal.returns-in_err-length
+returns-in_err-length g c =
     let r = c.in_ok-row.ensures in
     let m = moment_of g.S.Store.meaning c.args.self.now in
     let a = subst (λ cs. BodyFound cs c.in_ok-row.row c.args.n (Some c.in-Some.body)) c.cells.ensures c.in-Some.ensures in
-    let p = err_from_is_err_and c.from_residual-in_err-length-in-Some.result c.from_residual-in_err-length-in-Some.ensures.1 in
-    let z : c.from_residual-in_err-length-in-Some.result ≡ Err c.in_err-length-in-Some.field-0.0 = cc in
-    let b = subst (λ x. BodyInto (part (g.S.Store.meaning c.args.self.now.store).bytes c.in-Some.body.start c.in-Some.body.end) (c.in-Some.body.end - c.in-Some.body.start) c.args.n c.args.buffer.now x c.body_into.new.buffer) c.in_err-length-in-Some.was c.body_into.ensures in
+    let p = err_from_is_err_and c.from_residual-in_err-length.result c.from_residual-in_err-length.ensures.1 in
+    let z : c.from_residual-in_err-length.result ≡ Err c.in_err-length.field-0.0 = cc in
+    let b = subst (λ x. BodyInto (part (g.S.Store.meaning c.args.self.now.store).bytes c.in-Some.body.start c.in-Some.body.end) (c.in-Some.body.end - c.in-Some.body.start) c.args.n c.args.buffer.now x c.body_into.new.buffer) c.in_err-length.was c.body_into.ensures in
     rw z (too_short m (revisions_in c.args.self.now) (cells_in c.args.self.now) c.args.k c.args.n _ _ _ _ c.in_ok-row.row r.0 r.1 a b.0 ∙ ap Err (sym b.1), b.2)
 
-pub returns-in_ok-length-in-Some : goal.returns-in_ok-length-in-Some
-returns-in_ok-length-in-Some g c =
+pub returns : goal.returns
+returns g c =
     let r = c.in_ok-row.ensures in
     let m = moment_of g.S.Store.meaning c.args.self.now in
     let a = subst (λ cs. BodyFound cs c.in_ok-row.row c.args.n (Some c.in-Some.body)) c.cells.ensures c.in-Some.ensures in
-    let b = subst (λ x. BodyInto (part (g.S.Store.meaning c.args.self.now.store).bytes c.in-Some.body.start c.in-Some.body.end) (c.in-Some.body.end - c.in-Some.body.start) c.args.n c.args.buffer.now x c.body_into.new.buffer) c.in_ok-length-in-Some.was c.body_into.ensures in
+    let b = subst (λ x. BodyInto (part (g.S.Store.meaning c.args.self.now.store).bytes c.in-Some.body.start c.in-Some.body.end) (c.in-Some.body.end - c.in-Some.body.start) c.args.n c.args.buffer.now x c.body_into.new.buffer) c.in_ok-length.was c.body_into.ensures in
     let e = (fetch_cells m (revisions_in c.args.self.now) (cells_in c.args.self.now) c.args.k c.args.n 0 r.0).ends c.in_ok-row.row _ r.1 a in
     let file = (g.S.Store.meaning c.args.self.now.store).bytes in
     let l : c.in-Some.body.end - c.in-Some.body.start ≡ length (part file c.in-Some.body.start c.in-Some.body.end) = simp (length-take, length-drop) (omega (arith, e.0, e.1)) in
     (part file c.in-Some.body.start c.in-Some.body.end, fetched m (revisions_in c.args.self.now) (cells_in c.args.self.now) c.args.k c.args.n _ _ _ _ c.in_ok-row.row r.0 r.1 a b.0, b.1 ∙ l, b.2)
 
-pub returns-in-None : goal.returns-in-None
-returns-in-None g c =
+pub returns-in_default : goal.returns-in_default
+returns-in_default g c =
     let r = c.in_ok-row.ensures in
     let m = moment_of g.S.Store.meaning c.args.self.now in
-    let a = subst (λ cs. BodyFound cs c.in_ok-row.row c.args.n None) c.cells.ensures c.in-None.ensures in
+    let f = subst (λ cs. BodyFound cs c.in_ok-row.row c.args.n c.body_of.result) c.cells.ensures c.body_of.ensures in
+    let a = no_body_found _ c.in_ok-row.row c.args.n c.body_of.result f c.in_default.not-Some in
     (unused m (revisions_in c.args.self.now) (cells_in c.args.self.now) c.args.k c.args.n _ c.in_ok-row.row r.0 r.1 a ∙ ap Err (sym c.refused.ensures), refl)

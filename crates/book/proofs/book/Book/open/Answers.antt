@@ -1,12 +1,11 @@
-use Rattle.std.proofs.Common.{Ok, refl, ◌∙◌, subst}
+use Rattle.std.proofs.Common.{refl, ◌∙◌}
 use Rattle.format.specs.Book.{phase_after}
-use Rattle.book.specs.Books.{Performs}
 use Rattle.book.proofs.Performed.{rows_counted, stands_after}
 use Rattle.book.proofs.book.Book.open.Goals as goal
 
 pub returns : goal.returns
 unfolding phase_after
 returns g c =
-    let p = subst (λ x. Performs g.S.Store.meaning c.args.self.now x (Ok tt) c.perform.new.self) c.opening.ensures c.in_ok-perform.ensures in
+    let p = c.in_ok-perform.ensures in
     let open-now = stands_after g.S.Store.meaning c.args.self.now c.perform.new.self _ refl p in
     record { performs = p; counted = c.len.ensures ∙ rows_counted g.S.Store.meaning c.perform.new.self p.sound open-now }
