@@ -1,10 +1,13 @@
 // What a command is answered, as one line.
-ghost use Rattle.std.specs.Prelude.{Some};
+ghost use Rattle.std.specs.Prelude.{◌≡◌, Some};
 ghost use Rattle.replay.specs.Answers.{refusal_words};
+ghost use Rattle.replay.specs.declared.answer.Setback.TheVariants as setback;
+ghost use Rattle.replay.specs.declared.trouble.Trouble.TheVariants.{NoMemory};
 
 use crate::sort::Sort;
 use crate::trouble::Trouble;
 use faults::fault::Fault;
+use std::alloc::{AllocError, AllocFailed};
 use std::io::Write;
 use std::{fmt, io};
 
@@ -29,6 +32,38 @@ pub enum Setback {
     Trouble(Trouble),
 }
 
+impl From<Fault> for Setback {
+    ghost from_gives = { λ f s. s ≡ setback.Fault f };
+
+    fn from(fault: Fault) -> Setback {
+        Setback::Fault(fault)
+    }
+}
+
+impl From<Trouble> for Setback {
+    ghost from_gives = { λ t s. s ≡ setback.Trouble t };
+
+    fn from(trouble: Trouble) -> Setback {
+        Setback::Trouble(trouble)
+    }
+}
+
+impl From<AllocError> for Setback {
+    ghost from_gives = { λ _ s. s ≡ setback.Trouble NoMemory };
+
+    fn from(_e: AllocError) -> Setback {
+        Setback::Trouble(Trouble::NoMemory)
+    }
+}
+
+impl<T: Drop> From<AllocFailed<T>> for Setback {
+    ghost from_gives = { λ _ s. s ≡ setback.Trouble NoMemory };
+
+    fn from(_e: AllocFailed<T>) -> Setback {
+        Setback::Trouble(Trouble::NoMemory)
+    }
+}
+
 // A fault in the form that other tools read.
 #[derive(Clone, Copy)]
 struct Refusal(Fault);
@@ -48,6 +83,7 @@ impl fmt::Display for Refusal {
     }
 }
 
+// The digits of bytes are bytes themselves, which `Display` would first have to find to be text.
 fn write_value<W: Write>(value: &Value, out: &mut W) -> io::Result<()> {
     match value {
         Value::Number(n) => write!(out, " {n}"),
@@ -56,16 +92,13 @@ fn write_value<W: Write>(value: &Value, out: &mut W) -> io::Result<()> {
             out.write_all(b" ")?;
             out.write_all(digits.as_slice())
         }
-        Value::Token { sort, from, to } => {
-            let word = sort.word();
-            write!(out, " {word}:{from}:{to}")
-        }
+        Value::Token { sort, from, to } => write!(out, " {sort}:{from}:{to}"),
     }
 }
 
 fn write_values<W: Write>(values: &Vec<Value>, out: &mut W) -> io::Result<()> {
     out.write_all(b"ok")?;
-    for value in values.iter() {
+    for value in values {
         write_value(value, out)?;
     }
     out.write_all(b"\n")

@@ -54,8 +54,5 @@ impl Bench {
 fn plain(heap: Global, res: Result<(), Setback>) -> Answer
     ensures { Plain result res }
 {
-    match res {
-        Ok(()) => Ok(Vec::new(heap)),
-        Err(setback) => Err(setback),
-    }
+    res.map(|_| Vec::new(heap))
 }

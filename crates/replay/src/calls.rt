@@ -1,12 +1,11 @@
 // The calls of a store.
 ghost use Rattle.std.specs.Prelude.{◌≡◌, IfOk};
-ghost use Rattle.replay.specs.Calls.{Appended, BytesTold, ByteTold, Called, CutBack, Listing};
+ghost use Rattle.replay.specs.Calls.{Appended, BytesTold, ByteTold, Called, CutBack};
 ghost use Rattle.replay.specs.Hex.{hex_of};
 
-use crate::answer::{Answer, Setback, Value};
+use crate::answer::{Answer, Value};
 use crate::command::Call;
 use crate::hex;
-use crate::trouble::Trouble;
 use std::alloc::{AllocError, Global};
 use stores::store::Store;
 
@@ -27,19 +26,15 @@ pub fn answer<S: Store>(heap: Global, store: &mut S, call: &Call) -> Answer
 fn append<S: Store>(heap: Global, store: &mut S, more: &[u8]) -> Answer
     ensures { Appended (S.Store.meaning store.old) more.now result (S.Store.meaning store.new) }
 {
-    match store.append(more) {
-        Ok(()) => Ok(Vec::new(heap)),
-        Err(fault) => Err(Setback::Fault(fault)),
-    }
+    store.append(more)?;
+    Ok(Vec::new(heap))
 }
 
 fn cut<S: Store>(heap: Global, store: &mut S, n: usize) -> Answer
     ensures { CutBack (S.Store.meaning store.old) n result (S.Store.meaning store.new) }
 {
-    match store.cut(n) {
-        Ok(()) => Ok(Vec::new(heap)),
-        Err(fault) => Err(Setback::Fault(fault)),
-    }
+    store.cut(n)?;
+    Ok(Vec::new(heap))
 }
 
 fn byte<S: Store>(heap: Global, store: &S, place: usize) -> Answer
@@ -50,24 +45,13 @@ fn byte<S: Store>(heap: Global, store: &S, place: usize) -> Answer
         None => Value::Nothing,
     };
     let mut values = Vec::new(heap);
-    match values.push(value) {
-        Ok(()) => Ok(values),
-        Err(_) => Err(Setback::Trouble(Trouble::NoMemory)),
-    }
-}
-
-fn bytes<S: Store>(heap: Global, store: &S) -> Answer
-    ensures { BytesTold (S.Store.meaning store.now) result }
-{
-    match listing(heap, store) {
-        Ok(values) => Ok(values),
-        Err(_) => Err(Setback::Trouble(Trouble::NoMemory)),
-    }
+    values.push(value)?;
+    Ok(values)
 }
 
 // The length, the space, and the bytes in hex.
-fn listing<S: Store>(heap: Global, store: &S) -> Result<Vec<Value>, AllocError>
-    ensures { IfOk result (λ vs. Listing (S.Store.meaning store.now) vs.items) }
+fn bytes<S: Store>(heap: Global, store: &S) -> Answer
+    ensures { BytesTold (S.Store.meaning store.now) result }
 {
     let text = digits(heap, store)?;
     let mut values = Vec::new(heap);

@@ -24,13 +24,11 @@ pub fn next_line<R: BufRead>(input: &mut R, line: &mut Vec<u8>) -> io::Result<Ne
             }
             Ok(Next::Line)
         }
-        Err(e) => {
-            if e.kind() != ErrorKind::OutOfMemory {
-                return Err(e);
-            }
+        Err(e) if e.kind() == ErrorKind::OutOfMemory => {
             pass_line(input, line)?;
             Ok(Next::TooLong)
         }
+        Err(e) => Err(e),
     }
 }
 
@@ -40,11 +38,8 @@ fn pass_line<R: BufRead>(input: &mut R, part: &mut Vec<u8>) -> io::Result<()> {
         part.clear();
         match input.read_until(b'\n', part) {
             Ok(_) => break,
-            Err(e) => {
-                if e.kind() != ErrorKind::OutOfMemory {
-                    return Err(e);
-                }
-            }
+            Err(e) if e.kind() == ErrorKind::OutOfMemory => {}
+            Err(e) => return Err(e),
         }
     }
     Ok(())

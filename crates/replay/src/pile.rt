@@ -24,20 +24,12 @@ impl Pile {
         ensures { Made space bytes self.old result self.new }
     {
         let length = bytes.len();
-        let Some(size) = length.checked_add(space) else {
-            return Err(Setback::Trouble(Trouble::NoMemory));
-        };
+        let size = length.checked_add(space).ok_or(Trouble::NoMemory)?;
         let mut memory = bytes;
-        if memory.resize(size, 0).is_err() {
-            return Err(Setback::Trouble(Trouble::NoMemory));
-        }
-        match Flat::check(&memory, length) {
-            Ok(()) => {
-                *self = Pile::Bare(Flat::new(memory, length));
-                Ok(())
-            }
-            Err(fault) => Err(Setback::Fault(fault)),
-        }
+        memory.resize(size, 0)?;
+        Flat::check(&memory, length)?;
+        *self = Pile::Bare(Flat::new(memory, length));
+        Ok(())
     }
 
     // An overlay over the topmost store.
@@ -49,6 +41,7 @@ impl Pile {
         result
     }
 
+    // A store that no overlay may cover stands again, so its refusal goes beside the pile and not by `?`.
     fn overlaid(self) -> (Pile, Result<(), Setback>)
         ensures { Laid self result.1 result.0 }
     {

@@ -57,29 +57,23 @@ fn tokens(heap: Global, src: &[u8]) -> Answer
 fn numbers(heap: Global, all: &[usize]) -> Answer {
     let mut values = Vec::new(heap);
     for n in all {
-        if values.push(Value::Number(*n)).is_err() {
-            return Err(Setback::Trouble(Trouble::NoMemory));
-        }
+        values.push(Value::Number(*n))?;
     }
     Ok(values)
 }
 
 // The place behind the object at the start.
 fn object(heap: Global, src: &[u8]) -> Answer {
-    match object_at(src, 0) {
-        Ok(extent) => numbers(heap, &[extent.end]),
-        Err(fault) => Err(Setback::Fault(fault)),
-    }
+    let extent = object_at(src, 0)?;
+    numbers(heap, &[extent.end])
 }
 
 // Whether the bytes may be put as a body.
 fn body(heap: Global, src: &[u8]) -> Answer
     ensures { BodyTold src.now result }
 {
-    match check_body(src) {
-        Ok(()) => Ok(Vec::new(heap)),
-        Err(fault) => Err(Setback::Fault(fault)),
-    }
+    check_body(src)?;
+    Ok(Vec::new(heap))
 }
 
 // The object in the file that starts with the bytes, with places counted from `place`.
@@ -87,19 +81,17 @@ fn frame(heap: Global, place: usize, src: &[u8]) -> Answer {
     if place > MOST_PLACE {
         return Err(Setback::Trouble(Trouble::BadPlace));
     }
-    match read_frame(src) {
-        Ok(read) => numbers(
-            heap,
-            &[
-                read.number as usize,
-                read.generation as usize,
-                place.saturating_add(read.start),
-                place.saturating_add(read.end),
-            ],
-        ),
-        Err(fault) => Err(Setback::Fault(Fault {
-            place: place.saturating_add(fault.place),
-            ..fault
-        })),
-    }
+    let read = read_frame(src).map_err(|fault| Fault {
+        place: place.saturating_add(fault.place),
+        ..fault
+    })?;
+    numbers(
+        heap,
+        &[
+            read.number as usize,
+            read.generation as usize,
+            place.saturating_add(read.start),
+            place.saturating_add(read.end),
+        ],
+    )
 }

@@ -5,6 +5,7 @@ ghost use Rattle.replay.specs.Sorts.{sort_of, word_sort};
 
 use lexer::name::same_bytes;
 use lexer::token::Token;
+use std::fmt;
 
 #[derive(Clone, Copy)]
 pub enum Sort {
@@ -35,8 +36,7 @@ impl Sort {
         ensures { result ≡ sort_of (kind_of token.entry) }
     {
         match token {
-            Token::Unsigned(_) => Some(Sort::Integer),
-            Token::Signed(_) => Some(Sort::Integer),
+            Token::Unsigned(_) | Token::Signed(_) => Some(Sort::Integer),
             Token::Real(_) => Some(Sort::Real),
             Token::Name(_) => Some(Sort::Name),
             Token::Text(_) => Some(Sort::Text),
@@ -73,9 +73,11 @@ impl Sort {
             Sort::Word
         }
     }
+}
 
-    pub fn word(self) -> &'static str {
-        match self {
+impl fmt::Display for Sort {
+    fn fmt<W: fmt::Write>(&self, f: &mut fmt::Formatter<W>) -> fmt::Result {
+        let word = match self {
             Sort::Integer => "int",
             Sort::Real => "real",
             Sort::Name => "name",
@@ -94,6 +96,7 @@ impl Sort {
             Sort::Stream => "stream",
             Sort::EndStream => "endstream",
             Sort::Word => "word",
-        }
+        };
+        write!(f, "{word}")
     }
 }

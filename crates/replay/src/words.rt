@@ -49,13 +49,8 @@ impl<'a> Words<'a> {
     pub fn number(&mut self) -> Result<usize, Trouble>
         ensures { MatchResult result (λ n. Took (NumberIn n) (words_left self.old.left) (words_left self.new.left)) (λ e. Amiss Decimal BadNumber (words_left self.old.left) e) }
     {
-        let Some(word) = self.take() else {
-            return Err(Trouble::WordMissing);
-        };
-        match decimal(word) {
-            Some(n) => Ok(n),
-            None => Err(Trouble::BadNumber),
-        }
+        let word = self.word()?;
+        decimal(word).ok_or(Trouble::BadNumber)
     }
 
     pub fn bytes(&mut self, heap: Global) -> Result<Vec<u8>, Trouble>

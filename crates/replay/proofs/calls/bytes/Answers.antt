@@ -1,4 +1,4 @@
-use Rattle.replay.proofs.calls.listing.Goals as goal
+use Rattle.replay.proofs.calls.bytes.Goals as goal
 
 pub returns : goal.returns
 returns g c =
