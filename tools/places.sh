@@ -62,7 +62,7 @@ echo '7. functions as values'
 row 'matches on a call or a command' src 'match (call|command|self\.phase|phase|reading) \{'
 
 echo '8. proofs'
-row 'files of answers' find crates -path '*/proofs/*' -name 'Answers.antt'
-row 'files of invariants' find crates -path '*/proofs/*' -name 'Invariants.antt'
-lines=$(find crates -path '*/proofs/*' -name '*.antt' -print0 | xargs -0 cat | wc -l)
+row 'files of answers' find crates -path '*/proofs/*' -not -path '*/out/*' -name 'Answers.antt'
+row 'files of invariants' find crates -path '*/proofs/*' -not -path '*/out/*' -name 'Invariants.antt'
+lines=$(find crates -path '*/proofs/*' -not -path '*/out/*' -name '*.antt' -print0 | xargs -0 cat | wc -l)
 printf '%4d  lines of proofs\n' "$lines"
