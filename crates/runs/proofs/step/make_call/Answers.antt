@@ -6,13 +6,10 @@ use Rattle.runs.proofs.Ties.{idle_spent}
 use Rattle.runs.proofs.step.make_call.Goals as goal
 
 pub make_with-requires : goal.make_with-requires
-make_with-requires g c = record { sound = c.requires.sound; idle = λ i. c.spent-used.ensures }
+make_with-requires g c = λ i. c.spent-used.ensures
 
 pub make_with-requires-2 : goal.make_with-requires-2
-make_with-requires-2 g c = record {
-  sound = c.requires.sound;
-  idle = idle_spent (moment_of g.S.Store.meaning c.args.book.now) (is_spent c.args.slip.now) c.requires.tied;
-}
+make_with-requires-2 g c = idle_spent (moment_of g.S.Store.meaning c.args.book.now) (is_spent c.args.slip.now) c.requires
 
 pub drop-used-requires : goal.drop-used-requires
 drop-used-requires g c =
@@ -20,8 +17,8 @@ drop-used-requires g c =
 
 pub returns-then-is_spent : goal.returns-then-is_spent
 returns-then-is_spent g c =
-    made_spent g.S.Store.meaning _ _ c.args.call.now c.make_with.result c.args.slip.now c.requires.tied _ _ c.spent-used.ensures (sym c.is_spent.ensures ∙ c.if-is_spent.true) c.make_with.ensures
+    made_spent g.S.Store.meaning _ _ c.args.call.now c.make_with.result c.args.slip.now c.requires _ _ c.spent-used.ensures (sym c.is_spent.ensures ∙ c.if-is_spent.true) c.make_with.ensures
 
 pub returns : goal.returns
 returns g c =
-    made_held g.S.Store.meaning _ _ c.args.call.now c.make_with-2.result c.args.slip.now c.requires.tied _ (sym c.is_spent.ensures ∙ c.if-is_spent.false) c.make_with-2.ensures
+    made_held g.S.Store.meaning _ _ c.args.call.now c.make_with-2.result c.args.slip.now c.requires _ (sym c.is_spent.ensures ∙ c.if-is_spent.false) c.make_with-2.ensures

@@ -9,7 +9,7 @@ use Rattle.runs.proofs.step.make_with.Goals as goal
 
 pub drop-slip-requires : goal.drop-slip-requires
 drop-slip-requires g c =
-    c.requires.idle
+    c.requires
     (begun_idle (moment_of g.S.Store.meaning c.args.book.now) (moment_of g.S.Store.meaning c.begin.new.self) tt c.in_ok-owed-in-Begin.ensures.performs.step)
 
 pub returns-in-Commit : goal.returns-in-Commit
