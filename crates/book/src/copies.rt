@@ -47,6 +47,7 @@ pub fn join<S: Store, T: Store>(store: &S, end: usize, out: &mut T)
 {
     let mut window = [0; STRIDE];
     let mut place = 0;
+    // the last stretch may be shorter than the others, so the place goes on by what was read
     while place < end {
         let count = store.read(place, &mut window).min(end - place);
         let _ = out.append(&window[0..count]);

@@ -18,6 +18,7 @@ pub fn same_parts<S: Store>(store: &S, a: usize, b: usize, count: usize) -> bool
     let mut one = [0; STRIDE];
     let mut other = [0; STRIDE];
     let mut done = 0;
+    // the last stretch may be shorter than the others, so no range of equal steps tells the places
     while done < count {
         let many = STRIDE.min(count - done);
         let _one = store.read(a + done, &mut one);

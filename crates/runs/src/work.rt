@@ -94,6 +94,7 @@ pub fn work<S: Store>(
 ) -> Result<Work<S>, Stopped<S, WorkError>>
     ensures { Worked S.Store.meaning store calls.now result }
 {
+    // store and memory go back with the cause, and so not by `?`
     match Vec::with_capacity(heap, calls.len()) {
         Ok(answers) => work_with(store, memory, calls, answers),
         Err(_) => Err(Stopped {

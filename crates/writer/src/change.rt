@@ -6,7 +6,7 @@ ghost use Rattle.format.specs.Bytes.{Bytes};
 ghost use Rattle.format.specs.Updates.{new_numbers};
 ghost use Rattle.writer.specs.Changes.{place_for, update_in};
 
-// A body is put, which starts and ends at places among the bytes kept; or the object is removed.
+// A body is put, which starts and ends at places among the bytes kept; or the object is removed, which is a change too: a number without one has none.
 #[derive(Clone, Copy, Debug, PartialEq, Eq)]
 pub enum Content {
     Body { start: usize, end: usize },

@@ -26,7 +26,7 @@ pub(crate) fn is_used(cell: Option<Cell>) -> bool
     }
 }
 
-// Whether a number is free for good.
+// Whether a number is free for good, arm by arm for the same reason.
 pub(crate) fn is_worn_out(cell: Option<Cell>) -> bool
     ensures { (file : Bytes) → result ≡ is_worn_out (option_map (state_in file) cell) }
 {
