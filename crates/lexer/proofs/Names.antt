@@ -1,5 +1,5 @@
 -- The bytes of a name, one step at a time.
-use Rattle.std.proofs.Common.{◌≡◌, ℕ, suc, ◌+◌, ◌*◌, ◌<◌, ◌≤◌, true, false, eqb, [], ◌∷◌, length, get_or, drop, Some, None, Ok, Err, Option, Result, sym, refl, ap, ◌∙◌, ⊎_elim, add-zero, add-one, arith}
+use Rattle.std.proofs.Common.{◌≡◌, ℕ, suc, ◌+◌, ◌*◌, ◌<◌, ◌≤◌, true, false, eqb, [], ◌∷◌, length, get_or, drop, Some, None, Ok, Err, Option, Result, sym, refl, ap, ◌∙◌, ⊎_elim, add-one, arith}
 use Rattle.std.specs.Option.{ok_or}
 use Rattle.std.proofs.lemmas.List.{at_drop_all, at_drop_more, nil_from_length}
 use Rattle.std.proofs.lemmas.Bool.{cases_lt, eq-eqb, ne_eqb}
@@ -136,9 +136,6 @@ module _ (run : Bytes) (p i : ℕ) {z : Result Unit Flaw} where
       let k : length run ≤ suc i = omega arith in
       sym (ap checked (at_place (decode plain (p + i)) run i h ∙ at_drop_all (λ r. decode plain (p + i) (get_or run i 0 ∷ r)) run (suc i) k ∙ hash_last (p + i) _ (eq-eqb _ _ e))) ∙ was)
       (cases_lt (i + 1) (length run))
-
-pub wrong_all : (run : Bytes) (p : ℕ) → wrong_from run p 0 ≡ checked (decode plain p run)
-wrong_all run p = rw add-zero
 
 -- what a name's bytes stand for, one step at a time
 module _ (x : ℕ) where

@@ -184,9 +184,6 @@ walk_on b c d e n m ds p i f g h was = rw (f, g, h) was
 pub finish_at : (b d c e : Bool) (n p : ℕ) {z : Result (Option ℕ) Flaw} → b ≡ c → d ≡ e → finish b d n p ≡ z → finish c e n p ≡ z
 finish_at b d c e n p f g was = rw (sym f, sym g) was
 
-pub walk_all : (ds : Bytes) (p : ℕ) → walk_at false false 0 ds p 0 ≡ walk false false 0 p ds
-walk_all ds p = rw add-zero
-
 negated_is : (n : ℕ) → neg_ℤ (pos n) ≡ negated n
 unfolding negated
 negated_is zero = refl

@@ -8,11 +8,6 @@ ghost use Rattle.lexer.specs.Numerals.{number_shown, is_absent, is_minus, walk, 
 use crate::bytes::is_digit;
 use crate::flaw::Flaw;
 
-// The sizes of the highest and of the lowest integer.
-const HIGHEST: u32 = 2147483647;
-
-const LOWEST: u32 = 2147483648;
-
 // What regular bytes that start like a number are.
 #[derive(Clone, Copy)]
 pub enum Numeral {
@@ -74,17 +69,9 @@ fn integer(minus: bool, size: u32) -> Result<i32, Flaw>
         (λ z. (z ≡ (if minus then neg_ℤ (pos size) else pos size)) × (size ≤ (if minus then 2147483648 else 2147483647)))
         (λ e. (e ≡ Flaw.OutOfRange) × ((if minus then 2147483648 else 2147483647) < size)) }
 {
-    if minus {
-        if size <= LOWEST {
-            Ok(-(size as i64) as i32)
-        } else {
-            Err(Flaw::OutOfRange)
-        }
-    } else if size <= HIGHEST {
-        Ok(size as i32)
-    } else {
-        Err(Flaw::OutOfRange)
-    }
+    let value = size as i64;
+    let signed = if minus { -value } else { value };
+    i32::try_from(signed).map_err(|_| Flaw::OutOfRange)
 }
 
 impl Sign {

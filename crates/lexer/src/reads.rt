@@ -15,6 +15,8 @@ use crate::number::{Numeral, numeral_of};
 use crate::space::run_end;
 use crate::token::Token;
 
+// Each takes the bytes and a place in them, and no value that keeps both: they read on by `run_end` and `hex_end` from other places, the end of the bytes among them.
+
 // A name whose `/` stands at `at`.
 fn name_at<'a>(src: &'a [u8], at: usize) -> Result<(Token<'a>, usize), Flaw>
     requires { at < length src.now }

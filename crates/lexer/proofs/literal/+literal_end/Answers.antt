@@ -1,7 +1,7 @@
-use Rattle.std.proofs.Common.{◌≡◌, Err, sym, ap, arith}
-use Rattle.std.proofs.lemmas.Result.{err_from_is_err_and}
+use Rattle.std.proofs.Common.{sym, ap, arith}
 use Rattle.format.specs.Tokens.{stray}
 use Rattle.lexer.specs.Endings.{span_flaw}
+use Rattle.lexer.proofs.Cases.{handed}
 use Rattle.lexer.proofs.Literals.{left_ends, left_closes, left_part, left_part_flawed, left_escaped, left_plain, too_deep, left_all}
 use Rattle.lexer.proofs.literal.+literal_end.Goals as goal
 
@@ -16,8 +16,7 @@ returns-then-b-eq41-clause-is t c = left_closes _ _ _ _ c.inside-test.true c.if-
 
 pub returns-in_err-at-clause-is : goal.returns-in_err-at-clause-is
 returns-in_err-at-clause-is t c =
-    let p = err_from_is_err_and c.from_residual.result c.from_residual.ensures.1 in
-    let z : c.from_residual.result ≡ Err c.in_err-at.field-0.0 = cc in
+    let z = handed c.from_residual.result c.in_err-at.field-0.0 c.from_residual.ensures.1 in
     rw z (left_part_flawed _ _ _ _ c.inside-test.true c.if-b-eq41.false (λ q. stray) _ c.if-b-eq40.true c.in_err-at.ensures.is c.inside.invariant.1)
 
 pub inside-preserved-then-b-eq40 : goal.inside-preserved-then-b-eq40

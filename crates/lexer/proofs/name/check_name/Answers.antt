@@ -1,5 +1,5 @@
-use Rattle.std.proofs.Common.{◌≡◌, ◌+◌, ◌<◌, length, Err, arith}
-use Rattle.std.proofs.lemmas.Result.{err_from_is_err_and}
+use Rattle.std.proofs.Common.{◌+◌, ◌<◌, length, arith}
+use Rattle.lexer.proofs.Cases.{handed}
 use Rattle.lexer.proofs.Names.{wrong_ends, wrong_plain, is_far, checked_given, checked_left, ok_or_some, ok_or_none}
 use Rattle.lexer.proofs.name.check_name.Goals as goal
 
@@ -14,8 +14,7 @@ loop-at-preserved c =
 
 pub returns-in_err-ok_or : goal.returns-in_err-ok_or
 returns-in_err-ok_or c =
-    let p = err_from_is_err_and c.from_residual.result c.from_residual.ensures.1 in
-    let z : c.from_residual.result ≡ Err c.in_err-ok_or.field-0.0 = cc in
+    let z = handed c.from_residual.result c.in_err-ok_or.field-0.0 c.from_residual.ensures.1 in
     let n = ok_or_none _ _ _ c.in_err-ok_or.ensures.value in
     rw (z, n.1) (checked_left _ _ c.loop-at-test.true c.if-run-at-ne35.false _ c.escaped.ensures.far c.escaped.ensures.near _ _ n.0 c.loop-at.invariant.1)
 

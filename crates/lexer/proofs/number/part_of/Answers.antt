@@ -1,12 +1,11 @@
-use Rattle.std.proofs.Common.{◌≡◌, Err, ◌∙◌}
-use Rattle.std.proofs.lemmas.Result.{err_from_is_err_and}
+use Rattle.std.proofs.Common.{◌∙◌}
+use Rattle.lexer.proofs.Cases.{handed}
 use Rattle.lexer.proofs.Numerals.{walk_meets, sized}
 use Rattle.lexer.proofs.number.part_of.Goals as goal
 
 pub returns-in_err-size : goal.returns-in_err-size
 returns-in_err-size c =
-    let p = err_from_is_err_and c.from_residual.result c.from_residual.ensures.1 in
-    let z : c.from_residual.result ≡ Err c.in_err-size.field-0.0 = cc in
+    let z = handed c.from_residual.result c.in_err-size.field-0.0 c.from_residual.ensures.1 in
     λ w. rw z (walk_meets _ _ w _ _ _ c.in_err-size.ensures)
 
 pub returns-in-Some : goal.returns-in-Some

@@ -1,14 +1,13 @@
-use Rattle.std.proofs.Common.{◌≡◌, false, Err, ap, ◌∙◌, w32, SFits, rules}
-use Rattle.std.proofs.lemmas.Result.{err_from_is_err_and}
+use Rattle.std.proofs.Common.{false, ap, ◌∙◌, w32, SFits, rules}
 use Rattle.std.proofs.lemmas.Int.{to_z-of_z}
 use Rattle.format.specs.Tokens.{int}
+use Rattle.lexer.proofs.Cases.{handed}
 use Rattle.lexer.proofs.Numerals.{past_is, signed_is, unsigned_is}
 use Rattle.lexer.proofs.number.with_sign.Goals as goal
 
 pub returns-in_err-z : goal.returns-in_err-z
 returns-in_err-z c =
-    let p = err_from_is_err_and c.from_residual.result c.from_residual.ensures.1 in
-    let z : c.from_residual.result ≡ Err c.in_err-z.field-0.0 = cc in
+    let z = handed c.from_residual.result c.in_err-z.field-0.0 c.from_residual.ensures.1 in
     λ w. rw z (past_is _ _ _ c.is_minus.ensures w _ c.in_err-z.ensures.0 c.in_err-z.ensures.1)
 
 pub returns-in-Absent : goal.returns-in-Absent

@@ -1,6 +1,6 @@
-use Rattle.std.proofs.Common.{◌≡◌, ◌+◌, ◌<◌, length, Err, ◌∙◌, arith}
-use Rattle.std.proofs.lemmas.Result.{err_from_is_err_and}
+use Rattle.std.proofs.Common.{◌+◌, ◌<◌, length, ◌∙◌, arith}
 use Rattle.format.specs.Tokens.{hex, bad_hex}
+use Rattle.lexer.proofs.Cases.{handed}
 use Rattle.lexer.proofs.Starts.{flawed_as, less_cut, less_dict, less_hex, string_closed, string_flawed}
 use Rattle.lexer.proofs.reads.less_at.Goals as goal
 
@@ -15,8 +15,7 @@ returns-then-src-at-eq60-clause-is c =
 pub returns-in_err-to-clause-is : goal.returns-in_err-to-clause-is
 returns-in_err-to-clause-is c =
     let more : c.args.at + 1 < length c.args.src.now = omega arith in
-    let p = err_from_is_err_and c.from_residual.result c.from_residual.ensures.1 in
-    let z : c.from_residual.result ≡ Err c.in_err-to.field-0.0 = cc in
+    let z = handed c.from_residual.result c.in_err-to.field-0.0 c.from_residual.ensures.1 in
     rw z (flawed_as _ _ _ _ (less_hex _ _ more c.if-src-at-eq60.false) (string_flawed hex bad_hex _ _ c.requires _ _ c.in_err-to.ensures.is))
 
 pub returns-clause-is : goal.returns-clause-is

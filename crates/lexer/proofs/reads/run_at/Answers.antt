@@ -1,7 +1,7 @@
-use Rattle.std.proofs.Common.{◌≡◌, false, Err, sym, ap, ◌∙◌, w32, SFits, rules}
+use Rattle.std.proofs.Common.{false, sym, ap, ◌∙◌, w32, SFits, rules}
 use Rattle.std.proofs.lemmas.Int.{to_z-of_z}
-use Rattle.std.proofs.lemmas.Result.{err_from_is_err_and}
 use Rattle.format.specs.Tokens.{int}
+use Rattle.lexer.proofs.Cases.{handed}
 use Rattle.lexer.proofs.Numerals.{shown_as}
 use Rattle.lexer.proofs.Starts.{flawed_parts, run_reads, word_kind, number_kind}
 use Rattle.lexer.proofs.reads.run_at.Goals as goal
@@ -14,8 +14,7 @@ returns-then-not-starts_number-clause-is c =
 pub returns-in_err-number-clause-is : goal.returns-in_err-number-clause-is
 returns-in_err-number-clause-is c =
     let told = c.run_end-to.ensures in
-    let p = err_from_is_err_and c.from_residual.result c.from_residual.ensures.1 in
-    let z : c.from_residual.result ≡ Err c.in_err-number.field-0.0 = cc in
+    let z = handed c.from_residual.result c.in_err-number.field-0.0 c.from_residual.ensures.1 in
     rw z (flawed_parts _ _ _ _ _ _ (run_reads _ _ _ _ c.requires told.low told.is (number_kind _ _ _ _ (sym c.if-not-starts_number.ensures) c.in_err-number.ensures)))
 
 pub returns-in-Unsigned-clause-is : goal.returns-in-Unsigned-clause-is

@@ -1,14 +1,13 @@
-use Rattle.std.proofs.Common.{◌≡◌, Err, ap, ◌∙◌}
-use Rattle.std.proofs.lemmas.Result.{err_from_is_err_and}
+use Rattle.std.proofs.Common.{ap, ◌∙◌}
 use Rattle.format.specs.Tokens.{text, stray}
 use Rattle.lexer.specs.Endings.{span_flaw}
+use Rattle.lexer.proofs.Cases.{handed}
 use Rattle.lexer.proofs.Starts.{string_closed, string_flawed, string_is}
 use Rattle.lexer.proofs.reads.text_at.Goals as goal
 
 pub returns-in_err-to-clause-is : goal.returns-in_err-to-clause-is
 returns-in_err-to-clause-is c =
-    let p = err_from_is_err_and c.from_residual.result c.from_residual.ensures.1 in
-    let z : c.from_residual.result ≡ Err c.in_err-to.field-0.0 = cc in
+    let z = handed c.from_residual.result c.in_err-to.field-0.0 c.from_residual.ensures.1 in
     rw z (string_flawed text (λ q. stray) _ _ c.requires _ _ (ap (span_flaw (λ q. stray) c.args.src.now) (string_is _ _) ∙ c.in_err-to.ensures.is))
 
 pub returns-clause-is : goal.returns-clause-is
