@@ -1,9 +1,11 @@
 -- A literal string, at a place inside it.
-use Rattle.std.proofs.Common.{◌≡◌, ℕ, zero, suc, ◌+◌, ◌-◌, ◌<◌, ◌≤◌, true, false, eqb, [], ◌∷◌, length, get_or, drop, sym, refl, ap, ◌∙◌, add-one, arith}
+use Rattle.std.proofs.Common.{◌≡◌, ℕ, zero, suc, ◌+◌, ◌-◌, ◌<◌, ◌≤◌, true, false, eqb, [], ◌∷◌, length, get_or, drop, Some, sym, refl, ap, ◌∙◌, ⊎_elim, add-one, arith}
 use Rattle.std.proofs.lemmas.List.{at_drop_all}
-use Rattle.std.proofs.lemmas.Bool.{eq-eqb, ne_eqb}
+use Rattle.std.proofs.lemmas.Bool.{cases_lt, eq-eqb, ne_eqb}
 use Rattle.format.specs.Bytes.{Bytes}
-use Rattle.format.specs.Strings.{Span, closed, unclosed, too_deep_at, Bracketed, turns, onward, literal, string_by}
+use Rattle.format.specs.Tokens.{Flaw}
+use Rattle.lexer.specs.Endings.{span_flaw}
+use Rattle.format.specs.Strings.{Span, closed, unclosed, too_deep_at, broken_at, Bracketed, turns, onward, literal, string_by}
 use Rattle.lexer.proofs.Places.{at_place}
 
 module _ (inner : Bracketed) (n p x : ℕ) (xs : Bytes) where
@@ -32,6 +34,13 @@ unfolding literal
 none_left inner zero p = refl
 none_left inner (suc n) p = refl
 
+-- a part's flaw is the string's
+flaw_onward : (f : ℕ → Flaw) (src : Bytes) (s : Span) (k : ℕ → Bytes → Span) (y : Flaw) → span_flaw f src s ≡ Some y → span_flaw f src (onward s k) ≡ Some y
+flaw_onward f src (closed q xs) k y e = let z : ◌≡◌ {A = ℕ} 0 1 = cc in absurd (omega arith)
+flaw_onward f src unclosed k y e = e
+flaw_onward f src (too_deep_at q) k y e = e
+flaw_onward f src (broken_at q) k y e = e
+
 -- what is to be read from p on comes to z, with turns enough
 abbrev pub Left : Bracketed → Bytes → ℕ → Span → Type 0
 Left inner src p z = (n : ℕ) × (length src < n + p) × (literal inner n p (drop p src) ≡ z)
@@ -54,16 +63,12 @@ module _ (inner : Bracketed) (src : Bytes) (p : ℕ) (z : Span) where
       left_part q b i m (suc n, l, e) =
           (n, omega arith, ap (λ s. onward s (λ q ys. literal inner n q ys)) i ∙ sym (left_opens b n e))
 
-      pub left_part_unclosed : get_or src p 0 ≡ 40 → unclosed ≡ inner p (drop (suc p) src) → Left inner src p z → unclosed ≡ z
-      left_part_unclosed b i (zero, l, e) = absurd (omega arith)
-      left_part_unclosed b i (suc n, l, e) = ap (λ s. onward s (λ q ys. literal inner n q ys)) i ∙ sym (left_opens b n e)
-
-      pub left_part_deep : (q : ℕ) → get_or src p 0 ≡ 40 → too_deep_at q ≡ inner p (drop (suc p) src) → Left inner src p z → too_deep_at q ≡ z
-      left_part_deep q b i (zero, l, e) = absurd (omega arith)
-      left_part_deep q b i (suc n, l, e) = ap (λ s. onward s (λ q ys. literal inner n q ys)) i ∙ sym (left_opens b n e)
+      pub left_part_flawed : (f : ℕ → Flaw) (y : Flaw) → get_or src p 0 ≡ 40 → span_flaw f src (inner p (drop (suc p) src)) ≡ Some y → Left inner src p z → span_flaw f src z ≡ Some y
+      left_part_flawed f y b i (zero, l, e) = absurd (omega arith)
+      left_part_flawed f y b i (suc n, l, e) = ap (span_flaw f src) (left_opens b n e) ∙ flaw_onward f src (inner p (drop (suc p) src)) (λ q ys. literal inner n q ys) y i
 
       module _ (o : get_or src p 0 ≡ 40 → ⊥) where
-        pub left_escape : get_or src p 0 ≡ 92 → p + 1 < length src → Left inner src p z → Left inner src (p + 2) z
+        left_escape : get_or src p 0 ≡ 92 → p + 1 < length src → Left inner src p z → Left inner src (p + 2) z
         left_escape b k (zero, l, e) = absurd (omega arith)
         left_escape b k (suc n, l, e) =
             let i : p + 2 ≡ suc (suc p) = omega arith in
@@ -77,7 +82,7 @@ module _ (inner : Bracketed) (src : Bytes) (p : ℕ) (z : Span) where
                   ) ∙ e),
             )
 
-        pub left_escape_end : get_or src p 0 ≡ 92 → length src ≤ p + 1 → Left inner src p z → unclosed ≡ z
+        left_escape_end : get_or src p 0 ≡ 92 → length src ≤ p + 1 → Left inner src p z → unclosed ≡ z
         left_escape_end b k (zero, l, e) = absurd (omega arith)
         left_escape_end b k (suc n, l, e) =
             let j : length src ≤ suc p = omega arith in
@@ -86,6 +91,19 @@ module _ (inner : Bracketed) (src : Bytes) (p : ℕ) (z : Span) where
             ∙ at_drop_all (λ r. literal inner (suc n) p (get_or src p 0 ∷ r)) src (suc p) j
             ∙ escapes_nothing inner n p _ [] (ne_eqb _ _ c) (ne_eqb _ _ o) (eq-eqb _ _ b)
             ) ∙ e
+
+        pub left_escaped : get_or src p 0 ≡ 92 → Left inner src p z → Left inner src (p + 2) z
+        left_escaped b was =
+            ⊎_elim
+            (λ k. left_escape b k was)
+            (λ k.
+            let n = was.0 in
+            let m = was.1 in (
+              n,
+              omega arith,
+              at_drop_all (literal inner n (p + 2)) src (p + 2) (omega arith) ∙ none_left inner n (p + 2) ∙ left_escape_end b k was,
+            ))
+            (cases_lt (p + 1) (length src))
 
         pub left_plain : (get_or src p 0 ≡ 92 → ⊥) → Left inner src p z → Left inner src (p + 1) z
         left_plain b (zero, l, e) = absurd (omega arith)

@@ -1,10 +1,15 @@
 -- The bytes of a name, one step at a time.
-use Rattle.std.proofs.Common.{◌≡◌, ℕ, suc, ◌+◌, ◌*◌, ◌<◌, ◌≤◌, true, false, cond, eqb, [], ◌∷◌, length, get_or, drop, Some, None, Option, sym, refl, ap, ◌∙◌, ⊎_elim, add-zero, add-one, arith}
-use Rattle.std.proofs.lemmas.List.{at_drop_all, at_drop_more}
+use Rattle.std.proofs.Common.{◌≡◌, ℕ, suc, ◌+◌, ◌*◌, ◌<◌, ◌≤◌, true, false, eqb, [], ◌∷◌, length, get_or, drop, Some, None, Ok, Err, Option, Result, sym, refl, ap, ◌∙◌, ⊎_elim, add-one, arith}
+use Rattle.std.specs.Option.{ok_or}
+use Rattle.std.proofs.lemmas.List.{at_drop_all, at_drop_more, nil_from_length}
 use Rattle.std.proofs.lemmas.Bool.{cases_lt, eq-eqb, ne_eqb}
 use Rattle.format.specs.Bytes.{Bytes}
 use Rattle.format.specs.Names.{hex_digit, Decoded, decoded, wrong_hash, joined, plain, hash, half, decode}
-use Rattle.lexer.specs.Spelled.{hex_byte, spelled, wrong_at}
+use Rattle.format.specs.Tokens.{bad_name}
+use Rattle.lexer.specs.declared.flaw.Flaw.{Flaw}
+use Rattle.lexer.specs.declared.flaw.Flaw.TheVariants.{BadName}
+use Rattle.lexer.specs.Flaws.{flaw_shown}
+use Rattle.lexer.specs.Spelled.{hex_byte, spelled, checked}
 use Rattle.lexer.proofs.Cases.{cases, either_some}
 use Rattle.lexer.proofs.Places.{at_place, at_three, at_two, at_two_more}
 
@@ -60,17 +65,13 @@ module _ (y z : ℕ) where
   unfolding hex_byte
   byte_no_low h e f = rw (e, f, hex_byte)
 
-  byte_zero : (h l : ℕ) → hex_digit y ≡ Some h → hex_digit z ≡ Some l → eqb (h * 16 + l) 0 ≡ true → hex_byte y z ≡ None
+  pub byte_zero : (h l : ℕ) → hex_digit y ≡ Some h → hex_digit z ≡ Some l → eqb (h * 16 + l) 0 ≡ true → hex_byte y z ≡ None
   unfolding hex_byte
   byte_zero h l e f g = rw (e, f, g, hex_byte)
 
-  byte_is : (h l : ℕ) → hex_digit y ≡ Some h → hex_digit z ≡ Some l → eqb (h * 16 + l) 0 ≡ false → hex_byte y z ≡ Some (h * 16 + l)
+  pub byte_is : (h l : ℕ) → hex_digit y ≡ Some h → hex_digit z ≡ Some l → eqb (h * 16 + l) 0 ≡ false → hex_byte y z ≡ Some (h * 16 + l)
   unfolding hex_byte
   byte_is h l e f g = rw (e, f, g, hex_byte)
-
-  -- two hex digits give what they count, if that is not 0
-  pub byte_counted : (h l : ℕ) → hex_digit y ≡ Some h → hex_digit z ≡ Some l → hex_byte y z ≡ cond (eqb (h * 16 + l) 0) None (Some (h * 16 + l))
-  byte_counted h l e f = cases (eqb (h * 16 + l) 0) (λ g. byte_zero h l e f g ∙ rw g) (λ g. byte_is h l e f g ∙ rw g)
 
 module _ (p x : ℕ) (e : eqb x 35 ≡ true) where
   hash_step : (y z : ℕ) (zs : Bytes) → decode plain p (x ∷ y ∷ z ∷ zs) ≡ on_hex (hex_byte y z) p (decode plain (suc (suc (suc p))) zs)
@@ -96,7 +97,7 @@ module _ (p x : ℕ) (e : eqb x 35 ≡ true) where
       hash_opens p x (y ∷ []) e
       ∙ either_some (hex_digit y) (λ h a. high (suc p) y [] p h a ∙ cut_half p h (suc (suc p))) (λ a. no_high (suc p) y [] p a)
 
-wrong_joined : (c : ℕ) (r : Decoded) → wrong_at (joined c r) ≡ wrong_at r
+wrong_joined : (c : ℕ) (r : Decoded) → checked (joined c r) ≡ checked r
 unfolding joined
 wrong_joined c (decoded cs) = refl
 wrong_joined c (wrong_hash q) = refl
@@ -106,38 +107,35 @@ unfolding decode
 decode_none p = refl
 
 -- the first wrong `#` from a place of the bytes on
-abbrev pub wrong_from : Bytes → ℕ → ℕ → Option ℕ
-wrong_from run p i = wrong_at (decode plain (p + i) (drop i run))
+abbrev pub wrong_from : Bytes → ℕ → ℕ → Result Unit Flaw
+wrong_from run p i = checked (decode plain (p + i) (drop i run))
 
-module _ (run : Bytes) (p i : ℕ) {z : Option ℕ} where
-  pub wrong_ends : length run ≤ i → wrong_from run p i ≡ z → None ≡ z
-  wrong_ends h was = sym (ap wrong_at (at_drop_all (decode plain (p + i)) run i h ∙ decode_none (p + i))) ∙ was
+module _ (run : Bytes) (p i : ℕ) {z : Result Unit Flaw} where
+  pub wrong_ends : length run ≤ i → wrong_from run p i ≡ z → Ok tt ≡ z
+  wrong_ends h was = sym (ap checked (at_drop_all (decode plain (p + i)) run i h ∙ decode_none (p + i))) ∙ was
 
   pub wrong_plain : i < length run → (get_or run i 0 ≡ 35 → ⊥) → wrong_from run p i ≡ z → wrong_from run p (i + 1) ≡ z
   wrong_plain h e was =
       let j : p + (i + 1) ≡ suc (p + i) = omega arith in
-      rw (j, add-one) (sym (ap wrong_at (at_place (decode plain (p + i)) run i h ∙ plain_step (p + i) _ _ (ne_eqb _ _ e)) ∙ wrong_joined _ _) ∙ was)
+      rw (j, add-one) (sym (ap checked (at_place (decode plain (p + i)) run i h ∙ plain_step (p + i) _ _ (ne_eqb _ _ e)) ∙ wrong_joined _ _) ∙ was)
 
-  pub wrong_pair : (c : ℕ) → i + 2 < length run → get_or run i 0 ≡ 35 → hex_byte (get_or run (i + 1) 0) (get_or run (i + 2) 0) ≡ Some c → wrong_from run p i ≡ z → wrong_from run p (i + 3) ≡ z
+  wrong_pair : (c : ℕ) → i + 2 < length run → get_or run i 0 ≡ 35 → hex_byte (get_or run (i + 1) 0) (get_or run (i + 2) 0) ≡ Some c → wrong_from run p i ≡ z → wrong_from run p (i + 3) ≡ z
   wrong_pair c h e f was =
       let j : p + (i + 3) ≡ suc (suc (suc (p + i))) = omega arith in
-      rw j (sym (ap wrong_at (at_three (decode plain (p + i)) run i h ∙ hash_step (p + i) _ (eq-eqb _ _ e) _ _ _ ∙ ap (λ o. on_hex o (p + i) (decode plain (suc (suc (suc (p + i)))) (drop (i + 3) run))) f) ∙ wrong_joined _ _) ∙ was)
+      rw j (sym (ap checked (at_three (decode plain (p + i)) run i h ∙ hash_step (p + i) _ (eq-eqb _ _ e) _ _ _ ∙ ap (λ o. on_hex o (p + i) (decode plain (suc (suc (suc (p + i)))) (drop (i + 3) run))) f) ∙ wrong_joined _ _) ∙ was)
 
-  pub wrong_here : i + 2 < length run → get_or run i 0 ≡ 35 → hex_byte (get_or run (i + 1) 0) (get_or run (i + 2) 0) ≡ None → wrong_from run p i ≡ z → Some (p + i) ≡ z
+  wrong_here : i + 2 < length run → get_or run i 0 ≡ 35 → hex_byte (get_or run (i + 1) 0) (get_or run (i + 2) 0) ≡ None → wrong_from run p i ≡ z → Err (BadName (p + i)) ≡ z
   wrong_here h e f was =
-      sym (ap wrong_at (at_three (decode plain (p + i)) run i h ∙ hash_step (p + i) _ (eq-eqb _ _ e) _ _ _ ∙ ap (λ o. on_hex o (p + i) (decode plain (suc (suc (suc (p + i)))) (drop (i + 3) run))) f)) ∙ was
+      sym (ap checked (at_three (decode plain (p + i)) run i h ∙ hash_step (p + i) _ (eq-eqb _ _ e) _ _ _ ∙ ap (λ o. on_hex o (p + i) (decode plain (suc (suc (suc (p + i)))) (drop (i + 3) run))) f)) ∙ was
 
-  pub wrong_short : i < length run → length run ≤ i + 2 → get_or run i 0 ≡ 35 → wrong_from run p i ≡ z → Some (p + i) ≡ z
+  wrong_short : i < length run → length run ≤ i + 2 → get_or run i 0 ≡ 35 → wrong_from run p i ≡ z → Err (BadName (p + i)) ≡ z
   wrong_short h l e was =
       ⊎_elim
-      (λ g. sym (ap wrong_at (at_two (decode plain (p + i)) run i g l ∙ hash_last_but_one (p + i) _ (eq-eqb _ _ e) _)) ∙ was)
+      (λ g. sym (ap checked (at_two (decode plain (p + i)) run i g l ∙ hash_last_but_one (p + i) _ (eq-eqb _ _ e) _)) ∙ was)
       (λ g.
       let k : length run ≤ suc i = omega arith in
-      sym (ap wrong_at (at_place (decode plain (p + i)) run i h ∙ at_drop_all (λ r. decode plain (p + i) (get_or run i 0 ∷ r)) run (suc i) k ∙ hash_last (p + i) _ (eq-eqb _ _ e))) ∙ was)
+      sym (ap checked (at_place (decode plain (p + i)) run i h ∙ at_drop_all (λ r. decode plain (p + i) (get_or run i 0 ∷ r)) run (suc i) k ∙ hash_last (p + i) _ (eq-eqb _ _ e))) ∙ was)
       (cases_lt (i + 1) (length run))
-
-pub wrong_all : (run : Bytes) (p : ℕ) → wrong_from run p 0 ≡ wrong_at (decode plain p run)
-wrong_all run p = rw add-zero
 
 -- what a name's bytes stand for, one step at a time
 module _ (x : ℕ) where
@@ -167,16 +165,16 @@ module _ (run : Bytes) (i : ℕ) where
   pub spelled_at_plain : i < length run → (get_or run i 0 ≡ 35 → ⊥) → spelled (drop i run) ≡ get_or run i 0 ∷ spelled (drop (i + 1) run)
   spelled_at_plain h e = rw add-one (at_place spelled run i h ∙ spelled_plain _ _ (ne_eqb _ _ e))
 
-  pub spelled_at_pair : (c : ℕ) → i + 2 < length run → get_or run i 0 ≡ 35 → hex_byte (get_or run (i + 1) 0) (get_or run (i + 2) 0) ≡ Some c → spelled (drop i run) ≡ c ∷ spelled (drop (i + 3) run)
+  spelled_at_pair : (c : ℕ) → i + 2 < length run → get_or run i 0 ≡ 35 → hex_byte (get_or run (i + 1) 0) (get_or run (i + 2) 0) ≡ Some c → spelled (drop i run) ≡ c ∷ spelled (drop (i + 3) run)
   spelled_at_pair c h e f = at_three spelled run i h ∙ spelled_pair _ _ _ c _ (eq-eqb _ _ e) f
 
-  pub spelled_at_wrong : i + 2 < length run → get_or run i 0 ≡ 35 → hex_byte (get_or run (i + 1) 0) (get_or run (i + 2) 0) ≡ None → spelled (drop i run) ≡ get_or run i 0 ∷ spelled (drop (i + 1) run)
+  spelled_at_wrong : i + 2 < length run → get_or run i 0 ≡ 35 → hex_byte (get_or run (i + 1) 0) (get_or run (i + 2) 0) ≡ None → spelled (drop i run) ≡ get_or run i 0 ∷ spelled (drop (i + 1) run)
   spelled_at_wrong h e f =
       at_three spelled run i h
       ∙ spelled_wrong _ _ _ _ (eq-eqb _ _ e) f
       ∙ sym (at_two_more (λ r. get_or run i 0 ∷ spelled r) run (i + 1) (i + 2) (i + 3) (omega arith) (omega arith) h)
 
-  pub spelled_at_short : i < length run → length run ≤ i + 2 → spelled (drop i run) ≡ get_or run i 0 ∷ spelled (drop (i + 1) run)
+  spelled_at_short : i < length run → length run ≤ i + 2 → spelled (drop i run) ≡ get_or run i 0 ∷ spelled (drop (i + 1) run)
   spelled_at_short h l =
       ⊎_elim
       (λ g.
@@ -191,29 +189,42 @@ module _ (run : Bytes) (i : ℕ) where
       ∙ sym (at_drop_all (λ r. get_or run i 0 ∷ spelled r) run (i + 1) g))
       (cases_lt (i + 1) (length run))
 
--- some byte stands in front
-abbrev pub Fronted : Bytes → Type 0
-Fronted xs = (c : ℕ) × (cs : Bytes) × (xs ≡ c ∷ cs)
+-- a `#`, where the byte r that it gives with the two behind it is known
+module _ (run : Bytes) (i : ℕ) (h : i < length run) (e : get_or run i 0 ≡ 35) (r : Option ℕ) (far : i + 2 < length run → r ≡ hex_byte (get_or run (i + 1) 0) (get_or run (i + 2) 0)) (near : length run ≤ i + 2 → r ≡ None) where
+  pub is_far : (c : ℕ) → r ≡ Some c → i + 2 < length run
+  is_far c s =
+      ⊎_elim
+      (λ l. l)
+      (λ l. let n : None ≡ Some c = sym (near l) ∙ s in let z : ◌≡◌ {A = ℕ} 0 1 = cc in absurd (omega arith))
+      (cases_lt (i + 2) (length run))
 
-spelled_front : (x : ℕ) (xs : Bytes) → Fronted (spelled (x ∷ xs))
-unfolding spelled
-spelled_front x [] = (x, [], refl)
-spelled_front x (y ∷ []) = (x, y ∷ [], refl)
-spelled_front x (y ∷ z ∷ zs) =
-    cases (eqb x 35)
-    (λ e. either_some (hex_byte y z) (λ c f. (c, spelled zs, rw (e, f, spelled))) (λ f. (x, spelled (y ∷ z ∷ zs), rw (e, f, spelled))))
-    (λ e. (x, spelled (y ∷ z ∷ zs), rw (e, spelled)))
+  pub spelled_given : (c : ℕ) → r ≡ Some c → spelled (drop i run) ≡ c ∷ spelled (drop (i + 3) run)
+  spelled_given c s = let l = is_far c s in spelled_at_pair run i c l e (sym (far l) ∙ s)
 
--- a name stands for a byte while it has one
-pub spelled_more : (run : Bytes) (i : ℕ) → i < length run → Fronted (spelled (drop i run))
-spelled_more run i h = let f = spelled_front (get_or run i 0) (drop (suc i) run) in (f.0, f.1, at_place spelled run i h ∙ f.2)
+  pub spelled_left : r ≡ None → spelled (drop i run) ≡ get_or run i 0 ∷ spelled (drop (i + 1) run)
+  spelled_left s = ⊎_elim (λ l. spelled_at_wrong run i l e (sym (far l) ∙ s)) (λ l. spelled_at_short run i h l) (cases_lt (i + 2) (length run))
+
+  pub checked_given : (p : ℕ) (z : Result Unit Flaw) (c : ℕ) → r ≡ Some c → wrong_from run p i ≡ z → wrong_from run p (i + 3) ≡ z
+  checked_given p z c s was = let l = is_far c s in wrong_pair run p i c l e (sym (far l) ∙ s) was
+
+  pub checked_left : (p : ℕ) (z : Result Unit Flaw) → r ≡ None → wrong_from run p i ≡ z → Err (BadName (p + i)) ≡ z
+  checked_left p z s was = ⊎_elim (λ l. wrong_here run p i l e (sym (far l) ∙ s) was) (λ l. wrong_short run p i h l e was) (cases_lt (i + 2) (length run))
 
 spelled_none : spelled [] ≡ []
 unfolding spelled
 spelled_none = refl
 
-pub spelled_ends : (run : Bytes) (i : ℕ) → i ≡ length run → spelled (drop i run) ≡ []
-spelled_ends run i e = at_drop_all spelled run i (omega arith) ∙ spelled_none
+pub spelled_empty : (xs : Bytes) → length xs ≡ 0 → spelled xs ≡ []
+spelled_empty xs e = rw (nil_from_length xs e) spelled_none
+
+-- what `ok_or` answers, told of the option
+pub ok_or_some : (r : Option ℕ) (f : Flaw) (x : ℕ) → Ok x ≡ ok_or r f → r ≡ Some x
+ok_or_some (Some a) f x e = let g : x ≡ a = cc in ap Some (sym g)
+ok_or_some None f x e = let z : ◌≡◌ {A = ℕ} 0 1 = cc in absurd (omega arith)
+
+pub ok_or_none : (r : Option ℕ) (f g : Flaw) → Err g ≡ ok_or r f → (r ≡ None) × (g ≡ f)
+ok_or_none (Some a) f g e = let z : ◌≡◌ {A = ℕ} 0 1 = cc in absurd (omega arith)
+ok_or_none None f g e = (refl, cc)
 
 -- the bytes that a name stands for are those that the definition decodes
 joined_parts : (c : ℕ) (r : Decoded) (d : Bytes) → joined c r ≡ decoded d → (e : Bytes) × (r ≡ decoded e) × (d ≡ c ∷ e)
@@ -259,15 +270,15 @@ either_decoded (decoded d) f g = f d refl
 either_decoded (wrong_hash q) f g = g q refl
 
 -- a name without a wrong `#` is decoded to what it stands for
-pub no_wrong : (p : ℕ) (xs : Bytes) → None ≡ wrong_at (decode plain p xs) → decode plain p xs ≡ decoded (spelled xs)
-no_wrong p xs e =
+pub no_wrong : (p : ℕ) (xs : Bytes) (u : Unit) → Ok u ≡ checked (decode plain p xs) → decode plain p xs ≡ decoded (spelled xs)
+no_wrong p xs u e =
     either_decoded (decode plain p xs)
     (λ d f. f ∙ ap decoded (sym (spelled_is p xs d f)))
-    (λ q f. let g : None ≡ Some q = e ∙ ap wrong_at f in let z : ◌≡◌ {A = ℕ} 0 1 = cc in absurd (omega arith))
+    (λ q f. let g : Ok u ≡ Err (BadName q) = e ∙ ap checked f in let z : ◌≡◌ {A = ℕ} 0 1 = cc in absurd (omega arith))
 
 -- and with one it is refused there
-pub one_wrong : (p : ℕ) (xs : Bytes) (q : ℕ) → Some q ≡ wrong_at (decode plain p xs) → decode plain p xs ≡ wrong_hash q
-one_wrong p xs q e =
+pub one_wrong : (p : ℕ) (xs : Bytes) (w : Flaw) → Err w ≡ checked (decode plain p xs) → (q : ℕ) × (decode plain p xs ≡ wrong_hash q) × (flaw_shown w ≡ bad_name q)
+one_wrong p xs w e =
     either_decoded (decode plain p xs)
-    (λ d f. let g : Some q ≡ None = e ∙ ap wrong_at f in let z : ◌≡◌ {A = ℕ} 0 1 = cc in absurd (omega arith))
-    (λ r f. let g : Some q ≡ Some r = e ∙ ap wrong_at f in let h : q ≡ r = cc in f ∙ ap wrong_hash (sym h))
+    (λ d f. let g : ◌≡◌ {A = Result Unit Flaw} (Err w) (Ok tt) = e ∙ ap checked f in let z : ◌≡◌ {A = ℕ} 0 1 = cc in absurd (omega arith))
+    (λ q f. let g : ◌≡◌ {A = Result Unit Flaw} (Err w) (Err (BadName q)) = e ∙ ap checked f in let h : w ≡ BadName q = cc in (q, f, ap flaw_shown h))

@@ -1,21 +1,26 @@
 -- The token that starts at a place of the bytes.
-use Rattle.std.proofs.Common.{◌≡◌, ℕ, suc, ◌+◌, ◌-◌, ◌<◌, ◌≤◌, true, false, eqb, [], ◌∷◌, length, get_or, take, drop, Result, sym, ap, ◌∙◌, subst, add-one, arith, length-drop, drop-cons}
+use Rattle.std.proofs.Common.{◌≡◌, ℕ, suc, ◌+◌, ◌-◌, ◌<◌, ◌≤◌, true, false, eqb, [], ◌∷◌, length, get_or, take, drop, Some, Result, sym, refl, ap, ◌∙◌, subst, add-one, arith, length-drop, drop-cons}
 use Rattle.std.proofs.lemmas.List.{at_drop_all}
 use Rattle.std.proofs.lemmas.Bool.{eq-eqb, ne_eqb}
 use Rattle.std.specs.List.{between}
 use Rattle.format.specs.Bytes.{Bytes, end_of, up_to, is_regular, span}
 use Rattle.format.specs.Names.{decoded, wrong_hash, plain, decode}
-use Rattle.format.specs.Numbers.{Numeral, starts_number, numeral}
+use Rattle.format.specs.Numbers.{starts_number, numeral}
 use Rattle.format.specs.Strings.{Span, closed, unclosed, too_deep_at, broken_at, string_by, string, hex_string}
 use Rattle.format.specs.Tokens.{open_array, close_array, open_dict, close_dict, Flaw, bad_name, bad_hex, stray, cut_short, deep_bracket, Kind, name, text, hex, mark, word, flawed, Token, tok, one_byte, string_token, after_less, after_greater, name_kind, name_token, marked, numeral_kind, run_kind, run_token, start_at}
 use Rattle.lexer.specs.declared.flaw.Flaw.{Flaw as Broken}
 use Rattle.lexer.specs.declared.token.Token.{Token as Read}
+use Rattle.lexer.specs.Endings.{span_flaw}
 use Rattle.lexer.specs.Views.{Reads, bytes_at}
 use Rattle.lexer.proofs.Places.{at_place}
 
 -- a flawed token by its parts
 pub flawed_parts : (t : Token) (f : Flaw) (p q : ℕ) (xs ys : Bytes) → t ≡ tok (flawed f) p xs q ys → (t.from ≡ p) × (t.kind ≡ flawed f)
 flawed_parts t f p q xs ys e = (ap (λ t. t.from) e, ap (λ t. t.kind) e)
+
+-- the same flaw of a token under another name
+pub flawed_as : (t u : Token) (p : ℕ) (f : Flaw) → t ≡ u → (u.from ≡ p) × (u.kind ≡ flawed f) → (t.from ≡ p) × (t.kind ≡ flawed f)
+flawed_as t u p f e (a, b) = (ap (λ t. t.from) e ∙ a, ap (λ t. t.kind) e ∙ b)
 
 -- the same token under another name
 pub reads_as : (src : Bytes) (p : ℕ) (t u : Token) (r : Result (Read × ℕ) Broken) → t ≡ u → Reads src p u r → Reads src p t r
@@ -32,27 +37,26 @@ and_behind src p q h l =
 
 -- strings of both sorts
 module _ (k : Bytes → Kind) (f : ℕ → Flaw) (src : Bytes) (p : ℕ) (h : p < length src) (s : Span) where
-  pub string_closed : (q : ℕ) → closed q (drop q src) ≡ s → string_token k f p (bytes_at src p) s ≡ tok (k (between p q src)) p (bytes_at src p) q (drop q src)
+  pub string_closed : (q : ℕ) → s ≡ closed q (drop q src) → string_token k f p (bytes_at src p) s ≡ tok (k (between p q src)) p (bytes_at src p) q (drop q src)
   unfolding string_token up_to
-  string_closed q e = rw (sym e, string_token) (ap (λ w. tok (k w) p (bytes_at src p) q (drop q src)) (from_here src p q h))
+  string_closed q e = rw (e, string_token) (ap (λ w. tok (k w) p (bytes_at src p) q (drop q src)) (from_here src p q h))
 
-  pub string_unclosed : unclosed ≡ s → string_token k f p (bytes_at src p) s ≡ tok (flawed (cut_short (length src))) p (bytes_at src p) p (bytes_at src p)
+  pub string_flawed : (y : Flaw) → span_flaw f src s ≡ Some y → ((string_token k f p (bytes_at src p) s).from ≡ p) × ((string_token k f p (bytes_at src p) s).kind ≡ flawed y)
   unfolding string_token end_of
-  string_unclosed e =
-      let n : p + length (bytes_at src p) ≡ length src = simp length-drop (omega arith) in
-      rw (sym e, string_token) (ap (λ n. tok (flawed (cut_short n)) p (bytes_at src p) p (bytes_at src p)) n)
+  string_flawed y e = flawed_span s e
+    where
+      flawed_span : (t : Span) → span_flaw f src t ≡ Some y → ((string_token k f p (bytes_at src p) t).from ≡ p) × ((string_token k f p (bytes_at src p) t).kind ≡ flawed y)
+      flawed_span (closed q xs) g = let z : ◌≡◌ {A = ℕ} 0 1 = cc in absurd (omega arith)
+      flawed_span unclosed g =
+          let n : p + length (bytes_at src p) ≡ length src = simp length-drop (omega arith) in
+          let i : cut_short (length src) ≡ y = cc in
+          (refl, ap (λ m. flawed (cut_short m)) n ∙ ap flawed i)
+      flawed_span (too_deep_at q) g = let i : deep_bracket q ≡ y = cc in (refl, ap flawed i)
+      flawed_span (broken_at q) g = let i : f q ≡ y = cc in (refl, ap flawed i)
 
-  pub string_deep : (q : ℕ) → too_deep_at q ≡ s → string_token k f p (bytes_at src p) s ≡ tok (flawed (deep_bracket q)) p (bytes_at src p) p (bytes_at src p)
-  unfolding string_token
-  string_deep q e = rw (sym e, string_token)
-
-  pub string_broken : (q : ℕ) → broken_at q ≡ s → string_token k f p (bytes_at src p) s ≡ tok (flawed (f q)) p (bytes_at src p) p (bytes_at src p)
-  unfolding string_token
-  string_broken q e = rw (sym e, string_token)
-
-pub string_is : (p : ℕ) (xs : Bytes) {s : Span} → s ≡ string_by 32 p xs → s ≡ string p xs
+pub string_is : (p : ℕ) (xs : Bytes) → string p xs ≡ string_by 32 p xs
 unfolding string
-string_is p xs e = e
+string_is p xs = refl
 
 module _ (src : Bytes) (p : ℕ) where
   -- names
@@ -84,9 +88,9 @@ pub word_kind : (p x : ℕ) (w : Bytes) → starts_number x ≡ false → run_ki
 unfolding run_kind
 word_kind p x w e = rw (e, run_kind)
 
-pub number_kind : (p x : ℕ) (w : Bytes) {n : Numeral} → starts_number x ≡ true → n ≡ numeral p w → run_kind p x w ≡ numeral_kind w n
+pub number_kind : (p x : ℕ) (w : Bytes) (k : Kind) → starts_number x ≡ true → k ≡ numeral_kind w (numeral p w) → run_kind p x w ≡ k
 unfolding run_kind
-number_kind p x w e f = rw (e, run_kind) (ap (numeral_kind w) (sym f))
+number_kind p x w k e f = rw (e, run_kind) (sym f)
 
 -- a token that starts with `<`
 module _ (src : Bytes) (p : ℕ) where

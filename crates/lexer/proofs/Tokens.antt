@@ -1,13 +1,14 @@
 -- The next token, behind white space and comments.
-use Rattle.std.proofs.Common.{◌≡◌, ℕ, ◌<◌, false, [], length, drop, Some, None, refl, ap, ◌∙◌, arith, drop-cons}
+use Rattle.std.proofs.Common.{◌≡◌, ℕ, ◌<◌, false, [], length, drop, MatchResult, Some, None, Ok, Err, Result, refl, ap, ◌∙◌, arith, drop-cons}
+use Rattle.std.specs.Result.{IsErrAnd}
 use Rattle.std.proofs.lemmas.List.{drop_all}
 use Rattle.faults.specs.declared.fault.Fault.{Fault}
 use Rattle.format.specs.Bytes.{Bytes}
 use Rattle.format.specs.Space.{skip}
 use Rattle.format.specs.Tokens.{Flaw, Kind, int, real, name, text, hex, mark, word, ended, flawed, flaw_fault, Token, tok, start_at, token_at}
-use Rattle.lexer.specs.declared.token.Token.{Token as Read}
-use Rattle.lexer.specs.declared.token.Token.TheVariants.{Unsigned, Signed, Real, Name, Text, Hex, Word, OpenArray, CloseArray, OpenDict, CloseDict, End}
-use Rattle.lexer.specs.Views.{kind_fault, token_fault_of, bytes_at, Took, Moves}
+use Rattle.lexer.specs.declared.flaw.Flaw.{Flaw as Broken}
+use Rattle.lexer.specs.Flaws.{flaw_shown}
+use Rattle.lexer.specs.Views.{kind_fault, token_fault_of, bytes_at}
 
 -- a token starts behind the space
 pub behind_space : (src : Bytes) (p q : ℕ) → skip false p (drop p src) ≡ (q, drop q src) → token_at p (drop p src) ≡ start_at q (drop q src)
@@ -29,34 +30,6 @@ as_dropped src p q k h e = rw (drop-cons src p 0 h) e
 pub flaw_told : (t : Token) (p : ℕ) (f : Flaw) → t.from ≡ p → t.kind ≡ flawed f → token_fault_of t ≡ Some (flaw_fault p f)
 flaw_told t p f d e = ap (λ p. kind_fault p t.kind) d ∙ ap (kind_fault p) e
 
-pub took_moves : (t : Read) (p q n : ℕ) → Took t p q → Moves t p q n
-took_moves (Unsigned k) p q n h = h
-took_moves (Signed z) p q n h = h
-took_moves (Real s) p q n h = h
-took_moves (Name s) p q n h = h
-took_moves (Text s) p q n h = h
-took_moves (Hex s) p q n h = h
-took_moves (Word s) p q n h = h
-took_moves OpenArray p q n h = h
-took_moves CloseArray p q n h = h
-took_moves OpenDict p q n h = h
-took_moves CloseDict p q n h = h
-took_moves End p q n h = absurd h
-
-pub took_byte : (t : Read) (p q : ℕ) → Took t p q → p < q
-took_byte (Unsigned k) p q h = h
-took_byte (Signed z) p q h = h
-took_byte (Real s) p q h = h
-took_byte (Name s) p q h = h
-took_byte (Text s) p q h = h
-took_byte (Hex s) p q h = h
-took_byte (Word s) p q h = h
-took_byte OpenArray p q h = h
-took_byte CloseArray p q h = h
-took_byte OpenDict p q h = h
-took_byte CloseDict p q h = h
-took_byte End p q h = absurd h
-
 none_is_not : {A : Type 0} (x : Fault) → None ≡ Some x → A
 none_is_not x e = let z : ◌≡◌ {A = ℕ} 0 1 = cc in absurd (omega arith)
 
@@ -74,3 +47,17 @@ faulted t x e = by_kind t.from t.kind x e
     by_kind p (word w) x e = none_is_not x e
     by_kind p ended x e = none_is_not x e
     by_kind p (flawed f) x e = (f, refl, cc)
+
+-- the same answer, where a flaw of the token at p is its fault
+abbrev pub Told : {T : Type 0} → ℕ → Result T Broken → Result T Fault → Type 0
+Told p r s = MatchResult r (λ x. s ≡ Ok x) (λ f. IsErrAnd s (λ g. g ≡ flaw_fault p (flaw_shown f)))
+
+pub told_ok : {T : Type 0} (p : ℕ) (r : Result T Broken) (s : Result T Fault) (x : T) → Told p r s → s ≡ Ok x → r ≡ Ok x
+told_ok p (Ok y) s x m e = cc
+told_ok p (Err f) (Ok y) x m e = absurd m
+told_ok p (Err f) (Err g) x m e = let z : ◌≡◌ {A = ℕ} 0 1 = cc in absurd (omega arith)
+
+pub told_err : {T : Type 0} (p : ℕ) (r : Result T Broken) (s : Result T Fault) (g : Fault) → Told p r s → s ≡ Err g → (f : Broken) × (r ≡ Err f) × (g ≡ flaw_fault p (flaw_shown f))
+told_err p (Ok y) s g m e = let z : ◌≡◌ {A = ℕ} 0 1 = cc in absurd (omega arith)
+told_err p (Err f) (Ok y) g m e = absurd m
+told_err p (Err f) (Err h) g m e = let i : g ≡ h = cc in (f, refl, i ∙ m)

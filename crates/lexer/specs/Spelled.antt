@@ -1,7 +1,9 @@
 -- What a name's bytes stand for, by looking ahead.
-use Rattle.std.specs.Prelude.{ℕ, ◌+◌, ◌*◌, true, false, [], ◌∷◌, Some, None, Option, ◌==◌}
+use Rattle.std.specs.Prelude.{ℕ, ◌+◌, ◌*◌, true, false, [], ◌∷◌, Some, None, Ok, Err, Option, Result, ◌==◌}
 use Rattle.format.specs.Bytes.{Bytes}
 use Rattle.format.specs.Names.{hex_digit, Decoded, decoded, wrong_hash}
+use Rattle.lexer.specs.declared.flaw.Flaw.{Flaw}
+use Rattle.lexer.specs.declared.flaw.Flaw.TheVariants.{BadName}
 
 -- the byte that two hex digits behind a `#` give, which is not 0
 unfoldable pub hex_byte : ℕ → ℕ → Option ℕ
@@ -22,7 +24,7 @@ spelled (x ∷ y ∷ z ∷ zs) =
       | false ↦ x ∷ spelled (y ∷ z ∷ zs)
     ]
 
--- the place of the first `#` that is wrong
-abbrev pub wrong_at : Decoded → Option ℕ
-wrong_at (decoded cs) = None
-wrong_at (wrong_hash p) = Some p
+-- the first `#` that is wrong, or none
+abbrev pub checked : Decoded → Result Unit Flaw
+checked (decoded cs) = Ok tt
+checked (wrong_hash p) = Err (BadName p)

@@ -1,37 +1,34 @@
 // Hexadecimal strings.
-ghost use Rattle.std.specs.Prelude.{◌≡◌, ◌<◌, ◌≤◌, length, drop};
-ghost use Rattle.format.specs.Strings.{hex_string};
-ghost use Rattle.lexer.specs.Endings.{hex_span, HexWithin};
+ghost use Rattle.std.specs.Prelude.{◌≡◌, ◌<◌, ◌≤◌, ◌||◌, not, length, drop, position, MatchResult};
+ghost use Rattle.format.specs.Bytes.{is_white};
+ghost use Rattle.format.specs.Strings.{is_hex, hex_string};
+ghost use Rattle.format.specs.Tokens.{bad_hex};
+ghost use Rattle.lexer.specs.Endings.{StringRead};
+ghost use Rattle.lexer.specs.Flaws.{FlawWithin};
 
 use crate::bytes::{is_hex, is_white};
+use crate::flaw::Flaw;
 
-// How a hex string ends.
-#[derive(Clone, Copy)]
-pub enum HexEnd {
-    // behind its closing mark
-    Closed(usize),
-    // the bytes end inside it
-    Unclosed,
-    // at a byte that cannot stand in it
-    BrokenAt(usize),
+// The place of the first byte that cannot stand in a hex string.
+fn first_outside(bytes: &[u8]) -> Option<usize>
+    ensures { result ≡ position (λ x. not (is_hex x || is_white x)) bytes.now }
+{
+    bytes.iter().position(|b| !(is_hex(*b) || is_white(*b)))
 }
 
-// The hex string from `from`, behind its opening mark, on.
-pub fn hex_end(src: &[u8], from: usize) -> HexEnd
+// The hex string from `from`, behind its opening mark, on: the place behind its closing mark.
+pub fn hex_end(src: &[u8], from: usize) -> Result<usize, Flaw>
     requires { from ≤ length src.now }
-    ensures is { hex_span src.now result ≡ hex_string from (drop from src.now) }
-    ensures within { HexWithin src.now from result }
+    ensures is { StringRead bad_hex src.now (hex_string from (drop from src.now)) result }
+    ensures within { MatchResult result (λ q. (from < q) × (q ≤ length src.now)) (FlawWithin src.now) }
 {
-    let mut at = from;
-    while at < src.len() {
-        let b = src[at];
-        if b == b'>' {
-            return HexEnd::Closed(at + 1);
-        }
-        if !is_hex(b) && !is_white(b) {
-            return HexEnd::BrokenAt(at);
-        }
-        at += 1;
+    let rest = &src[from..];
+    let at = from + first_outside(rest).unwrap_or(rest.len());
+    if at == src.len() {
+        return Err(Flaw::CutShort(src.len()));
     }
-    HexEnd::Unclosed
+    if src[at] != b'>' {
+        return Err(Flaw::BadHex(at));
+    }
+    Ok(at + 1)
 }

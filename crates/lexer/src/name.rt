@@ -1,50 +1,52 @@
 // Names, compared by the bytes that they stand for.
-ghost use Rattle.std.specs.Prelude.{◌≡◌, ◌+◌, ◌^◌, ◌<◌, ◌≤◌, ◌∷◌, length, drop, if◌then◌else◌, Some, None, nat_eq};
+ghost use Rattle.std.specs.Prelude.{◌≡◌, ◌+◌, ◌^◌, ◌<◌, ◌≤◌, ◌∷◌, length, drop, None, slice_index};
+ghost use Rattle.std.specs.Iterator.{YieldsFirst, item_count};
 ghost use Rattle.format.specs.Bytes.{same};
 ghost use Rattle.format.specs.Names.{decode, plain};
-ghost use Rattle.lexer.specs.Spelled.{hex_byte, spelled, wrong_at};
+ghost use Rattle.lexer.specs.Spelled.{hex_byte, spelled, checked};
 
 use crate::bytes::hex_digit;
+use crate::flaw::Flaw;
 
-// A byte that a name may stand for.
-fn not_zero(byte: u8) -> Option<u8>
-    ensures { result ≡ (if nat_eq byte 0 then None else Some byte) }
-{
-    if byte == 0 { None } else { Some(byte) }
-}
-
-// The byte that two hex digits behind a `#` give.
+// The byte that two hex digits behind a `#` give, which is not 0.
 fn hex_byte(high: u8, low: u8) -> Option<u8>
     ensures { result ≡ hex_byte high low }
 {
-    match hex_digit(high) {
-        Some(h) => match hex_digit(low) {
-            Some(l) => not_zero(h * 16 + l),
-            None => None,
-        },
-        None => None,
+    let h = hex_digit(high)?;
+    let l = hex_digit(low)?;
+    let byte = h * 16 + l;
+    if byte == 0 { None } else { Some(byte) }
+}
+
+// The byte that the `#` at `at` gives with the two bytes behind it.
+fn escaped(run: &[u8], at: usize) -> Option<u8>
+    requires { at < length run.now }
+    ensures far { at + 2 < length run.now → result ≡ hex_byte (slice_index run.now (at + 1)) (slice_index run.now (at + 2)) }
+    ensures near { length run.now ≤ at + 2 → result ≡ None }
+{
+    if run.len() - at > 2 {
+        hex_byte(run[at + 1], run[at + 2])
+    } else {
+        None
     }
 }
 
-// The place of the first `#` that is wrong in the regular bytes of a name, which start at the place `from`.
-pub(crate) fn wrong_hash(run: &[u8], from: usize) -> Option<usize>
+// That each `#` in the regular bytes of a name, which start at the place `from`, gives a byte.
+pub(crate) fn check_name(run: &[u8], from: usize) -> Result<(), Flaw>
     requires { from + length run.now < 2 ^ 64 }
-    ensures { result ≡ wrong_at (decode plain from run.now) }
+    ensures { result ≡ checked (decode plain from run.now) }
 {
+    // An escape is passed at once, so the places that are asked are not one apart.
     let mut at = 0;
     while at < run.len() {
         if run[at] != b'#' {
             at += 1;
-        } else if run.len() - at > 2 {
-            match hex_byte(run[at + 1], run[at + 2]) {
-                Some(_) => at += 3,
-                None => return Some(from + at),
-            }
         } else {
-            return Some(from + at);
+            escaped(run, at).ok_or(Flaw::BadName(from + at))?;
+            at += 3;
         }
     }
-    None
+    Ok(())
 }
 
 // The next byte that a name stands for, and the place in it behind what gives that byte.
@@ -54,13 +56,34 @@ fn spelled_byte(name: &[u8], at: usize) -> (u8, usize)
     ensures within { (at < result.1) × (result.1 ≤ length name.now) }
 {
     let b = name[at];
-    if b == b'#' && name.len() - at > 2 {
-        match hex_byte(name[at + 1], name[at + 2]) {
-            Some(c) => (c, at + 3),
-            None => (b, at + 1),
+    if b != b'#' {
+        return (b, at + 1);
+    }
+    match escaped(name, at) {
+        Some(byte) => (byte, at + 3),
+        None => (b, at + 1),
+    }
+}
+
+// The bytes that a name stands for.
+#[derive(Drop)]
+struct SpelledBytes<'a>(&'a [u8]);
+
+impl Iterator for SpelledBytes<'_> {
+    type Item = u8;
+
+    ghost next_gives = { YieldsFirst (λ s. spelled s.0.now) };
+
+    ghost remaining = { item_count (λ s. spelled s.0.now) };
+
+    fn next(&mut self) -> Option<u8> {
+        let name = self.0;
+        if name.len() == 0 {
+            return None;
         }
-    } else {
-        (b, at + 1)
+        let (byte, behind) = spelled_byte(name, 0);
+        self.0 = &name[behind..];
+        Some(byte)
     }
 }
 
@@ -68,62 +91,19 @@ fn spelled_byte(name: &[u8], at: usize) -> (u8, usize)
 pub fn same_name(a: &[u8], b: &[u8]) -> bool
     ensures { result ≡ same (spelled a.now) (spelled b.now) }
 {
-    let mut i = 0;
-    let mut j = 0;
-    'both: loop {
-        if i == a.len() {
-            return j == b.len();
-        }
-        if j == b.len() {
-            return false;
-        }
-        let (x, behind_x) = spelled_byte(a, i);
-        let (y, behind_y) = spelled_byte(b, j);
-        if x != y {
-            return false;
-        }
-        i = behind_x;
-        j = behind_y;
-    }
+    SpelledBytes(a).eq(SpelledBytes(b))
 }
 
 // Whether a name stands for these bytes.
 pub fn spells(name: &[u8], bytes: &[u8]) -> bool
     ensures { result ≡ same (spelled name.now) bytes.now }
 {
-    let mut i = 0;
-    let mut j = 0;
-    'both: loop {
-        if i == name.len() {
-            return j == bytes.len();
-        }
-        if j == bytes.len() {
-            return false;
-        }
-        let (x, behind_x) = spelled_byte(name, i);
-        if x != bytes[j] {
-            return false;
-        }
-        i = behind_x;
-        j += 1;
-    }
+    SpelledBytes(name).eq(bytes.iter().copied())
 }
 
 // Whether the bytes are the same.
 pub fn same_bytes(a: &[u8], b: &[u8]) -> bool
     ensures { result ≡ same a.now b.now }
 {
-    let mut i = 0;
-    'both: loop {
-        if i == a.len() {
-            return i == b.len();
-        }
-        if i == b.len() {
-            return false;
-        }
-        if a[i] != b[i] {
-            return false;
-        }
-        i += 1;
-    }
+    a == b
 }

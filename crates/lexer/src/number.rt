@@ -1,14 +1,12 @@
 // Numbers.
-ghost use Rattle.std.specs.Prelude.{◌≡◌, ◌+◌, ◌-◌, ◌*◌, ◌^◌, ◌<◌, ◌≤◌, min, Bool, true, false, length, pos, neg_ℤ, nat_le};
-ghost use Rattle.format.specs.Numbers.{numeral};
-ghost use Rattle.lexer.specs.Numerals.{numeral_shown, size_shown, walk, capped};
+ghost use Rattle.std.specs.Prelude.{◌≡◌, ◌+◌, ◌-◌, ◌*◌, ◌^◌, ◌<◌, ◌≤◌, true, false, length, pos, neg_ℤ, MatchResult, if◌then◌else◌};
+ghost use Rattle.format.specs.Bytes.{Bytes};
+ghost use Rattle.format.specs.Numbers.{bounded, unsigned_part, numeral};
+ghost use Rattle.format.specs.Tokens.{numeral_kind};
+ghost use Rattle.lexer.specs.Numerals.{number_shown, is_absent, is_minus, walk, capped};
 
 use crate::bytes::is_digit;
-
-// The sizes of the highest and of the lowest integer.
-const HIGHEST: u32 = 2147483647;
-
-const LOWEST: u32 = 2147483648;
+use crate::flaw::Flaw;
 
 // What regular bytes that start like a number are.
 #[derive(Clone, Copy)]
@@ -19,19 +17,14 @@ pub enum Numeral {
     Signed(i32),
     // a real
     Fraction,
-    // an integer past its bound
-    PastBound,
-    // the place of the first byte that cannot continue a number, else its end
-    NoNumber(usize),
 }
 
-// What stands behind the sign.
+// What stands in front of the digits.
 #[derive(Clone, Copy)]
-enum Size {
-    // the size of an integer, at most 2147483649 for one past either bound
-    Whole(u32),
-    Fraction,
-    NoNumber(usize),
+enum Sign {
+    Absent,
+    Plus,
+    Minus,
 }
 
 // The size behind one more digit.
@@ -43,121 +36,89 @@ fn more_size(size: u32, b: u8) -> u32
     (size as u64 * 10 + (b - b'0') as u64).min(2147483649) as u32
 }
 
-// The bytes behind the sign, which start at the place `from`.
-fn size_of_digits(digits: &[u8], from: usize) -> Size
+// The size of the integer whose digits these are, at most 2147483649 for one past either bound; none for a real. They start at the place `from`.
+fn size_of_digits(digits: &[u8], from: usize) -> Result<Option<u32>, Flaw>
     requires { from + length digits.now < 2 ^ 64 }
     ensures { result ≡ walk false false 0 from digits.now }
 {
-    let mut at = 0;
     let mut period = false;
     let mut digit = false;
     let mut size = 0;
-    while at < digits.len() {
-        let b = digits[at];
-        if is_digit(b) {
+    for (at, b) in digits.iter().enumerate() {
+        if is_digit(*b) {
             digit = true;
-            size = more_size(size, b);
-        } else if b == b'.' && !period {
+            size = more_size(size, *b);
+        } else if *b == b'.' && !period {
             period = true;
         } else {
-            return Size::NoNumber(from + at);
+            return Err(Flaw::BadNumber(from + at));
         }
-        at += 1;
     }
     if !digit {
-        Size::NoNumber(from + at)
+        Err(Flaw::BadNumber(from + digits.len()))
     } else if period {
-        Size::Fraction
+        Ok(None)
     } else {
-        Size::Whole(size)
+        Ok(Some(size))
     }
 }
 
-fn fits_above(n: u32) -> bool
-    ensures { result ≡ nat_le n 2147483647 }
+// The integer of a size, behind a minus or not.
+fn integer(minus: bool, size: u32) -> Result<i32, Flaw>
+    ensures { MatchResult result
+        (λ z. (z ≡ (if minus then neg_ℤ (pos size) else pos size)) × (size ≤ (if minus then 2147483648 else 2147483647)))
+        (λ e. (e ≡ Flaw.OutOfRange) × ((if minus then 2147483648 else 2147483647) < size)) }
 {
-    n <= HIGHEST
+    let value = size as i64;
+    let signed = if minus { -value } else { value };
+    i32::try_from(signed).map_err(|_| Flaw::OutOfRange)
 }
 
-fn fits_below(n: u32) -> bool
-    ensures { result ≡ nat_le n 2147483648 }
-{
-    n <= LOWEST
-}
-
-fn plus(n: u32) -> i32
-    requires { n ≤ 2147483647 }
-    ensures { result ≡ pos n }
-{
-    n as i32
-}
-
-fn minus(n: u32) -> i32
-    requires { n ≤ 2147483648 }
-    ensures { result ≡ neg_ℤ (pos n) }
-{
-    -(n as i64) as i32
-}
-
-// An integer of that size without a sign, from 0 to 2147483647.
-fn unsigned(size: Size) -> Numeral
-    ensures { numeral_shown result ≡ size_shown true false size }
-{
-    match size {
-        Size::Whole(n) => if fits_above(n) {
-            Numeral::Unsigned(n)
-        } else {
-            Numeral::PastBound
-        },
-        Size::Fraction => Numeral::Fraction,
-        Size::NoNumber(place) => Numeral::NoNumber(place),
+impl Sign {
+    fn is_minus(self) -> bool
+        ensures { result ≡ is_minus self }
+    {
+        matches!(self, Sign::Minus)
     }
 }
 
-// An integer of that size behind a plus, to 2147483647.
-fn positive(size: Size) -> Numeral
-    ensures { numeral_shown result ≡ size_shown false false size }
+// The integer of a size, with its sign.
+fn with_sign(sign: Sign, size: u32) -> Result<Numeral, Flaw>
+    ensures { (w : Bytes) → number_shown w result ≡ numeral_kind w (bounded (is_absent sign) (is_minus sign) size) }
 {
-    match size {
-        Size::Whole(n) => if fits_above(n) {
-            Numeral::Signed(plus(n))
-        } else {
-            Numeral::PastBound
-        },
-        Size::Fraction => Numeral::Fraction,
-        Size::NoNumber(place) => Numeral::NoNumber(place),
+    let z = integer(sign.is_minus(), size)?;
+    match sign {
+        Sign::Absent => Ok(Numeral::Unsigned(size)),
+        Sign::Plus | Sign::Minus => Ok(Numeral::Signed(z)),
     }
 }
 
-// An integer of that size behind a minus, down to -2147483648.
-fn negative(size: Size) -> Numeral
-    ensures { numeral_shown result ≡ size_shown false true size }
+// The number behind a sign, or without one: its bytes start at the place `from`.
+fn part_of(sign: Sign, digits: &[u8], from: usize) -> Result<Numeral, Flaw>
+    requires { from + length digits.now < 2 ^ 64 }
+    ensures { (w : Bytes) → number_shown w result ≡ numeral_kind w (unsigned_part (is_absent sign) (is_minus sign) from digits.now) }
 {
+    let size = size_of_digits(digits, from)?;
     match size {
-        Size::Whole(n) => if fits_below(n) {
-            Numeral::Signed(minus(n))
-        } else {
-            Numeral::PastBound
-        },
-        Size::Fraction => Numeral::Fraction,
-        Size::NoNumber(place) => Numeral::NoNumber(place),
+        Some(n) => with_sign(sign, n),
+        None => Ok(Numeral::Fraction),
     }
 }
 
 // The number that regular bytes are, which start at the place `from` like one.
-pub fn numeral_of(run: &[u8], from: usize) -> Numeral
+pub fn numeral_of(run: &[u8], from: usize) -> Result<Numeral, Flaw>
     requires { from + length run.now < 2 ^ 64 }
-    ensures { numeral_shown result ≡ numeral from run.now }
+    ensures { number_shown run.now result ≡ numeral_kind run.now (numeral from run.now) }
 {
     if run.len() == 0 {
-        return Numeral::NoNumber(from);
+        return Err(Flaw::BadNumber(from));
     }
     let b = run[0];
     if b == b'-' {
-        negative(size_of_digits(&run[1..], from + 1))
+        part_of(Sign::Minus, &run[1..], from + 1)
     } else if b == b'+' {
-        positive(size_of_digits(&run[1..], from + 1))
+        part_of(Sign::Plus, &run[1..], from + 1)
     } else {
-        unsigned(size_of_digits(run, from))
+        part_of(Sign::Absent, run, from)
     }
 }

@@ -6,7 +6,7 @@ use crate::token::{Found, token_at};
 use faults::fault::Fault;
 
 // The bytes, and the place from which the next token is read.
-#[derive(Drop)]
+#[derive(Clone, Copy)]
 pub struct Lexer<'a> {
     pub src: &'a [u8],
     pub place: usize,
@@ -26,11 +26,9 @@ impl<'a> Lexer<'a> {
         ensures src { result.src.now ≡ src.now }
         ensures place { result.place ≡ min place (length src.now) }
     {
-        let end = src.len();
-        if place < end {
-            Lexer { src, place }
-        } else {
-            Lexer { src, place: end }
+        Lexer {
+            src,
+            place: place.min(src.len()),
         }
     }
 

@@ -6,14 +6,16 @@ ghost use Rattle.format.specs.Strings.{string};
 ghost use Rattle.format.specs.Tokens.{name_token, string_token, text, stray, after_less, after_greater, run_token, marked, start_at};
 ghost use Rattle.lexer.specs.Views.{Reads, Takes, bytes_at};
 
-use crate::bytes::{is_digit, is_regular};
+use crate::bytes::is_regular;
 use crate::flaw::Flaw;
-use crate::hex::{HexEnd, hex_end};
-use crate::literal::{LiteralEnd, string_end};
-use crate::name::wrong_hash;
+use crate::hex::hex_end;
+use crate::literal::string_end;
+use crate::name::check_name;
 use crate::number::{Numeral, numeral_of};
 use crate::space::run_end;
 use crate::token::Token;
+
+// Each takes the bytes and a place in them, and no value that keeps both: they read on by `run_end` and `hex_end` from other places, the end of the bytes among them.
 
 // A name whose `/` stands at `at`.
 fn name_at<'a>(src: &'a [u8], at: usize) -> Result<(Token<'a>, usize), Flaw>
@@ -23,10 +25,8 @@ fn name_at<'a>(src: &'a [u8], at: usize) -> Result<(Token<'a>, usize), Flaw>
 {
     let to = run_end(src, at + 1);
     let name = &src[at + 1..to];
-    match wrong_hash(name, at + 1) {
-        None => Ok((Token::Name(name), to)),
-        Some(place) => Err(Flaw::BadName(place)),
-    }
+    check_name(name, at + 1)?;
+    Ok((Token::Name(name), to))
 }
 
 // A literal string whose `(` stands at `at`.
@@ -35,11 +35,8 @@ fn text_at<'a>(src: &'a [u8], at: usize) -> Result<(Token<'a>, usize), Flaw>
     ensures is { Reads src.now at (string_token text (λ q. stray) at (bytes_at src.now at) (string at (drop (suc at) src.now))) result }
     ensures takes { Takes src.now at result }
 {
-    match string_end(src, at) {
-        LiteralEnd::Closed(to) => Ok((Token::Text(&src[at..to]), to)),
-        LiteralEnd::Unclosed => Err(Flaw::CutShort(src.len())),
-        LiteralEnd::TooDeepAt(place) => Err(Flaw::DeepBracket(place)),
-    }
+    let to = string_end(src, at)?;
+    Ok((Token::Text(&src[at..to]), to))
 }
 
 // `<<`, or a hex string whose `<` stands at `at`.
@@ -54,11 +51,8 @@ fn less_at<'a>(src: &'a [u8], at: usize) -> Result<(Token<'a>, usize), Flaw>
     if src[at + 1] == b'<' {
         return Ok((Token::OpenDict, at + 2));
     }
-    match hex_end(src, at + 1) {
-        HexEnd::Closed(to) => Ok((Token::Hex(&src[at..to]), to)),
-        HexEnd::Unclosed => Err(Flaw::CutShort(src.len())),
-        HexEnd::BrokenAt(place) => Err(Flaw::BadHex(place)),
-    }
+    let to = hex_end(src, at + 1)?;
+    Ok((Token::Hex(&src[at..to]), to))
 }
 
 // `>>`, whose first `>` stands at `at`.
@@ -76,10 +70,11 @@ fn greater_at<'a>(src: &'a [u8], at: usize) -> Result<(Token<'a>, usize), Flaw>
     }
 }
 
+#[tactic(auto, using(std::proofs::lemmas::Bool::Decides::nat_tests), unfolding(format::specs::Bytes::is_digit, format::specs::Numbers::starts_number))]
 fn starts_number(b: u8) -> bool
     ensures { result ≡ starts_number b }
 {
-    is_digit(b) || b == b'+' || b == b'-' || b == b'.'
+    matches!(b, b'0'..=b'9' | b'+' | b'-' | b'.')
 }
 
 // Regular bytes of which the first stands at `at`: a number or a word.
@@ -93,12 +88,11 @@ fn run_at<'a>(src: &'a [u8], at: usize) -> Result<(Token<'a>, usize), Flaw>
     if !starts_number(src[at]) {
         return Ok((Token::Word(run), to));
     }
-    match numeral_of(run, at) {
+    let number = numeral_of(run, at)?;
+    match number {
         Numeral::Unsigned(n) => Ok((Token::Unsigned(n), to)),
         Numeral::Signed(z) => Ok((Token::Signed(z), to)),
         Numeral::Fraction => Ok((Token::Real(run), to)),
-        Numeral::PastBound => Err(Flaw::OutOfRange),
-        Numeral::NoNumber(place) => Err(Flaw::BadNumber(place)),
     }
 }
 

@@ -1,5 +1,5 @@
 // White space, comments, and runs of regular bytes.
-ghost use Rattle.std.specs.Prelude.{◌≡◌, ◌<◌, ◌≤◌, false, length, drop};
+ghost use Rattle.std.specs.Prelude.{◌≡◌, ◌<◌, ◌≤◌, false, not, length, drop, position};
 ghost use Rattle.format.specs.Bytes.{is_regular, span, up_to};
 ghost use Rattle.format.specs.Space.{skip};
 
@@ -12,21 +12,26 @@ pub fn skip_space(src: &[u8], from: usize) -> usize
     ensures low { from ≤ result }
     ensures high { result ≤ length src.now }
 {
-    let mut at = from;
     let mut comment = false;
-    while at < src.len() {
+    for at in from..src.len() {
         let b = src[at];
         if comment {
             comment = !is_eol(b);
         } else if !is_white(b) {
             if b != b'%' {
-                break;
+                return at;
             }
             comment = true;
         }
-        at += 1;
     }
-    at
+    src.len()
+}
+
+// The place of the first byte that is not regular.
+fn first_irregular(bytes: &[u8]) -> Option<usize>
+    ensures { result ≡ position (λ x. not (is_regular x)) bytes.now }
+{
+    bytes.iter().position(|b| !is_regular(*b))
 }
 
 // The place behind the regular bytes from `from` on.
@@ -36,9 +41,6 @@ pub fn run_end(src: &[u8], from: usize) -> usize
     ensures low { from ≤ result }
     ensures high { result ≤ length src.now }
 {
-    let mut at = from;
-    while at < src.len() && is_regular(src[at]) {
-        at += 1;
-    }
-    at
+    let rest = &src[from..];
+    from + first_irregular(rest).unwrap_or(rest.len())
 }

@@ -53,12 +53,10 @@ pub fn token_at<'a>(src: &'a [u8], from: usize) -> Result<Found<'a>, Fault>
             to: at,
         });
     }
-    match start_at(src, at) {
-        Ok((token, to)) => Ok(Found {
-            token,
-            from: at,
-            to,
-        }),
-        Err(flaw) => Err(flaw_fault(at, flaw)),
-    }
+    let (token, to) = start_at(src, at).map_err(|flaw| flaw_fault(at, flaw))?;
+    Ok(Found {
+        token,
+        from: at,
+        to,
+    })
 }

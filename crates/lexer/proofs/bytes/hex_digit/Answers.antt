@@ -1,21 +1,24 @@
-use Rattle.std.proofs.Common.{sym, arith}
-use Rattle.std.proofs.lemmas.Bool.Decides.{nat_tests}
-use Rattle.format.specs.Bytes.{is_digit}
-use Rattle.lexer.proofs.HexDigits.{decimal_digit, upper_digit, lower_digit, no_digit}
+use Rattle.std.proofs.Common.{◌≡◌, ◌+◌, ◌-◌, sym, arith}
+use Rattle.lexer.proofs.HexDigits.{by_digit, by_upper, by_lower, by_none}
 use Rattle.lexer.proofs.bytes.hex_digit.Goals as goal
 
-pub overflow_sub-result : goal.overflow_sub-result
-unfolding is_digit
-overflow_sub-result c = let h = c.if-is_digit.ensures in grind (arith, nat_tests)
+pub returns-in-48-to-57 : goal.returns-in-48-to-57
+returns-in-48-to-57 c = sym (by_digit c.args.b (omega arith) (omega arith))
 
-pub returns-then-is_digit : goal.returns-then-is_digit
-returns-then-is_digit c = sym (decimal_digit _ (sym c.if-is_digit.ensures))
+pub returns-in-65-to-70 : goal.returns-in-65-to-70
+returns-in-65-to-70 c = let i : c.args.b - 65 + 10 ≡ c.args.b - 55 = omega arith in rw i (sym (by_upper c.args.b (omega arith) (omega arith)))
 
-pub returns-then-b-le70 : goal.returns-then-b-le70
-returns-then-b-le70 c = sym (upper_digit _ (sym c.if-is_digit.ensures) c.if-b-ge65.true c.if-b-le70.true)
+pub returns-in-97-to-102 : goal.returns-in-97-to-102
+returns-in-97-to-102 c = let i : c.args.b - 97 + 10 ≡ c.args.b - 87 = omega arith in rw i (sym (by_lower c.args.b (omega arith) (omega arith)))
 
-pub returns-then-b-le102 : goal.returns-then-b-le102
-returns-then-b-le102 c = sym (lower_digit _ (sym c.if-is_digit.ensures) c.if-b-ge97.true c.if-b-le102.true)
+pub returns-in_default : goal.returns-in_default
+returns-in_default c = sym (by_none c.args.b (λ h. omega arith) (λ h. omega arith) (λ h. omega arith))
 
-pub returns-else-b-ge97 : goal.returns-else-b-ge97
-returns-else-b-ge97 c = sym (no_digit _ (sym c.if-is_digit.ensures) c.else-b-ge65.either c.else-b-ge97.either)
+pub returns-in_default-2 : goal.returns-in_default-2
+returns-in_default-2 c = sym (by_none c.args.b (λ h. omega arith) (λ h. omega arith) (λ h. omega arith))
+
+pub returns-in_default-3 : goal.returns-in_default-3
+returns-in_default-3 c = sym (by_none c.args.b (λ h. omega arith) (λ h. omega arith) (λ h. omega arith))
+
+pub returns-in_default-4 : goal.returns-in_default-4
+returns-in_default-4 c = sym (by_none c.args.b (λ h. omega arith) (λ h. omega arith) (λ h. omega arith))

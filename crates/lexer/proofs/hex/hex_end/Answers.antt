@@ -1,28 +1,23 @@
-use Rattle.std.proofs.Common.{sym, arith}
-use Rattle.std.proofs.lemmas.Bool.{or_from, or_left, or_right}
-use Rattle.lexer.proofs.Hexes.{hex_ends, hex_closes, hex_more, hex_breaks}
+use Rattle.std.proofs.Common.{◌+◌, ◌<◌, length, sym, ap, arith}
+use Rattle.format.specs.Tokens.{bad_hex}
+use Rattle.lexer.specs.Endings.{span_flaw}
+use Rattle.lexer.proofs.Runs.{first_is, run_within, run_stops}
+use Rattle.lexer.proofs.Hexes.{inside, hex_found, hex_ends, hex_closes, hex_breaks}
 use Rattle.lexer.proofs.hex.hex_end.Goals as goal
-use Rattle.lexer.proofs.hex.hex_end.Goals.{else-not-is_hex-via-then-not-is_hex+else-not-is_white, else-not-is_hex-via-else-not-is_hex}
 
-pub loop-at-preserved : goal.loop-at-preserved
-loop-at-preserved c = (
-  omega arith,
-  omega arith,
-  elim c.else-not-is_hex.branch [
-    | else-not-is_hex-via-then-not-is_hex+else-not-is_white w ↦ hex_more _ _ c.loop-at-test.true c.if-b-eq62.false (or_right _ _ (sym w.if-not-is_white.ensures)) c.loop-at.invariant.2
-    | else-not-is_hex-via-else-not-is_hex w ↦ hex_more _ _ c.loop-at-test.true c.if-b-eq62.false (or_left _ _ (sym w.if-not-is_hex.ensures)) c.loop-at.invariant.2
-  ],
-)
+pub returns-then-at-src-clause-is : goal.returns-then-at-src-clause-is
+returns-then-at-src-clause-is c =
+    let found = first_is inside _ _ _ c.first_outside.ensures c.unwrap_or.ensures in
+    ap (span_flaw bad_hex c.args.src.now) (sym (hex_ends c.args.src.now (c.args.from + c.unwrap_or.result) (omega arith) (hex_found c.args.src.now c.args.from c.unwrap_or.result found)))
 
-pub returns-then-b-eq62 : goal.returns-then-b-eq62
-returns-then-b-eq62 c = record { is = hex_closes _ _ c.loop-at-test.true c.if-b-eq62.true c.loop-at.invariant.2; within = (omega arith, omega arith) }
+pub returns-then-src-at-ne62-clause-is : goal.returns-then-src-at-ne62-clause-is
+returns-then-src-at-ne62-clause-is c =
+    let found = first_is inside _ _ _ c.first_outside.ensures c.unwrap_or.ensures in
+    let h : c.args.from + c.unwrap_or.result < length c.args.src.now = omega (arith, run_within inside c.args.src.now c.args.from c.unwrap_or.result found c.requires) in
+    ap (span_flaw bad_hex c.args.src.now) (sym (hex_breaks c.args.src.now (c.args.from + c.unwrap_or.result) h c.if-src-at-ne62.true (run_stops inside c.args.src.now c.args.from c.unwrap_or.result found h) (hex_found c.args.src.now c.args.from c.unwrap_or.result found)))
 
-pub returns-then-not-is_white : goal.returns-then-not-is_white
-returns-then-not-is_white c =
-    record {
-      is = hex_breaks _ _ c.loop-at-test.true c.if-b-eq62.false (or_from _ _ (sym c.if-not-is_hex.ensures) (sym c.if-not-is_white.ensures)) c.loop-at.invariant.2;
-      within = c.loop-at-test.true;
-    }
-
-pub returns : goal.returns
-returns c = record { is = hex_ends _ _ c.loop-at-test.false c.loop-at.invariant.2; within = tt }
+pub returns-clause-is : goal.returns-clause-is
+returns-clause-is c =
+    let found = first_is inside _ _ _ c.first_outside.ensures c.unwrap_or.ensures in
+    let h : c.args.from + c.unwrap_or.result < length c.args.src.now = omega (arith, run_within inside c.args.src.now c.args.from c.unwrap_or.result found c.requires) in
+    sym (hex_closes c.args.src.now (c.args.from + c.unwrap_or.result) h c.if-src-at-ne62.false (hex_found c.args.src.now c.args.from c.unwrap_or.result found))

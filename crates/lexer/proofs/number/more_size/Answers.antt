@@ -1,7 +1,6 @@
-use Rattle.std.proofs.Common.{arith}
 use Rattle.lexer.specs.Numerals.{capped}
 use Rattle.lexer.proofs.number.more_size.Goals as goal
 
-pub returns : goal.returns
+pub returns-clause-is : goal.returns-clause-is
 unfolding capped
-returns c = record { is = c.min.ensures; high = omega arith }
+returns-clause-is c = c.min.ensures

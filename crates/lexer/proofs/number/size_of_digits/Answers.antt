@@ -1,30 +1,25 @@
-use Rattle.std.proofs.Common.{◌≡◌, true, false, not, ◌&&◌, eqb, get_or, sym, refl, ap, ◌∙◌, arith}
+use Rattle.std.proofs.Common.{◌≡◌, ◌+◌, true, false, length, not, ◌&&◌, eqb, get_or, sym, refl, ap, ◌∙◌, arith}
 use Rattle.std.proofs.lemmas.Bool.{ne_eqb, and_left, and_right}
 use Rattle.std.proofs.lemmas.Bool.Decides.{nat_tests}
 use Rattle.format.specs.Bytes.{is_digit}
-use Rattle.lexer.proofs.Numerals.{walk_digit, walk_period, walk_stops, walk_ends, walk_all, walk_on, finish_at}
+use Rattle.lexer.proofs.Numerals.{walk_digit, walk_period, walk_stops, walk_ends, walk_on, finish_at}
 use Rattle.lexer.proofs.number.size_of_digits.Goals as goal
 use Rattle.lexer.proofs.number.size_of_digits.Goals.{then-is_digit, else-is_digit+then-b-eq46+then-not-period, else-b-eq46-via-then-b-eq46+else-not-period, else-b-eq46-via-else-b-eq46}
 
 pub more_size-size-requires : goal.more_size-size-requires
 unfolding is_digit
-more_size-size-requires c = let h = c.if-is_digit.ensures in (c.loop-at.invariant.1, grind (arith, nat_tests))
-
-pub loop-at-init : goal.loop-at-init
-loop-at-init c = (omega arith, omega arith, walk_all _ _)
+more_size-size-requires c = let h = c.if-is_digit.ensures in (c.loop-at.invariant.0, grind (arith, nat_tests))
 
 pub loop-at-preserved : goal.loop-at-preserved
 loop-at-preserved c =
     elim c.if-is_digit.branch [
       | then-is_digit w ↦ (
-        omega arith,
         omega (arith, w.size-is, w.more_size-size.ensures.high),
-        walk_on _ _ _ _ _ _ _ _ _ w.period-is w.digit-is (w.size-is ∙ w.more_size-size.ensures.is) (walk_digit _ _ _ _ _ _ c.loop-at-test.true (sym w.if-is_digit.ensures) c.loop-at.invariant.2),
+        walk_on _ _ _ _ _ _ _ _ _ w.period-is w.digit-is (w.size-is ∙ w.more_size-size.ensures.is) (walk_digit _ _ _ _ _ _ (omega arith) (sym w.if-is_digit.ensures) c.loop-at.invariant.1),
       )
       | else-is_digit+then-b-eq46+then-not-period w ↦ (
-        omega arith,
         omega (arith, w.size-is),
-        walk_on _ _ _ _ _ _ _ _ _ w.period-is w.digit-is w.size-is (walk_period _ _ _ _ _ _ c.loop-at-test.true (sym w.if-is_digit.ensures) w.if-b-eq46.true w.if-not-period.true c.loop-at.invariant.2),
+        walk_on _ _ _ _ _ _ _ _ _ w.period-is w.digit-is w.size-is (walk_period _ _ _ _ _ _ (omega arith) (sym w.if-is_digit.ensures) w.if-b-eq46.true w.if-not-period.true c.loop-at.invariant.1),
       )
     ]
 
@@ -35,14 +30,15 @@ returns-else-b-eq46 c =
       | else-b-eq46-via-then-b-eq46+else-not-period w ↦ and_right _ _ (ap not w.if-not-period.false)
       | else-b-eq46-via-else-b-eq46 w ↦ and_left _ _ (ne_eqb _ _ w.if-b-eq46.false)
     ] in
-    walk_stops _ _ _ _ _ _ c.loop-at-test.true (sym c.if-is_digit.ensures) no c.loop-at.invariant.2
+    walk_stops _ _ _ _ _ _ (omega arith) (sym c.if-is_digit.ensures) no c.loop-at.invariant.1
 
 pub returns-then-not-digit : goal.returns-then-not-digit
 returns-then-not-digit c =
-    finish_at _ _ c.loop-at.period false _ _ refl c.if-not-digit.true (walk_ends _ _ _ _ _ _ c.loop-at-test.false c.loop-at.invariant.2)
+    let e : c.args.from + length c.args.digits.now ≡ c.args.from + c.loop-at.at = omega arith in
+    rw e (finish_at _ _ c.loop-at.period false _ _ refl c.if-not-digit.true (walk_ends _ _ _ _ _ _ (omega arith) c.loop-at.invariant.1))
 
 pub returns-then-period : goal.returns-then-period
-returns-then-period c = finish_at _ _ true true _ _ c.if-period.true c.if-not-digit.false (walk_ends _ _ _ _ _ _ c.loop-at-test.false c.loop-at.invariant.2)
+returns-then-period c = finish_at _ _ true true _ _ c.if-period.true c.if-not-digit.false (walk_ends _ _ _ _ _ _ (omega arith) c.loop-at.invariant.1)
 
 pub returns-else-period : goal.returns-else-period
-returns-else-period c = finish_at _ _ false true _ _ c.if-period.false c.if-not-digit.false (walk_ends _ _ _ _ _ _ c.loop-at-test.false c.loop-at.invariant.2)
+returns-else-period c = finish_at _ _ false true _ _ c.if-period.false c.if-not-digit.false (walk_ends _ _ _ _ _ _ (omega arith) c.loop-at.invariant.1)

@@ -1,13 +1,19 @@
-use Rattle.std.proofs.Common.{arith}
+use Rattle.std.proofs.Common.{sym, ap, ◌∙◌}
 use Rattle.format.specs.Bytes.{up_to}
+use Rattle.format.specs.Tokens.{flawed}
+use Rattle.lexer.proofs.Cases.{handed}
 use Rattle.lexer.proofs.Names.{no_wrong, one_wrong}
 use Rattle.lexer.proofs.Starts.{flawed_parts, name_reads, name_flaws}
 use Rattle.lexer.proofs.reads.name_at.Goals as goal
 
-pub returns-in-None : goal.returns-in-None
+pub returns-in_err-check_name-clause-is : goal.returns-in_err-check_name-clause-is
 unfolding up_to
-returns-in-None c = record { is = name_reads _ _ _ _ _ c.run_end-to.ensures.is (no_wrong _ _ c.in-None.ensures); takes = (omega arith, omega arith) }
+returns-in_err-check_name-clause-is c =
+    let z = handed c.from_residual.result c.in_err-check_name.field-0.0 c.from_residual.ensures.1 in
+    let n = one_wrong _ _ _ c.in_err-check_name.ensures in
+    let t = flawed_parts _ _ _ _ _ _ (name_flaws _ _ _ _ _ c.run_end-to.ensures.is n.1) in
+    rw z (t.0, t.1 ∙ ap flawed (sym n.2))
 
-pub returns-in-Some : goal.returns-in-Some
+pub returns-clause-is : goal.returns-clause-is
 unfolding up_to
-returns-in-Some c = record { is = flawed_parts _ _ _ _ _ _ (name_flaws _ _ _ _ _ c.run_end-to.ensures.is (one_wrong _ _ _ c.in-Some.ensures)); takes = tt }
+returns-clause-is c = name_reads _ _ _ _ _ c.run_end-to.ensures.is (no_wrong _ _ _ c.in_ok-check_name.ensures)

@@ -1,61 +1,35 @@
-use Rattle.std.proofs.Common.{false, sym, ap, ◌∙◌, arith, w32, SFits, rules}
+use Rattle.std.proofs.Common.{false, sym, ap, ◌∙◌, w32, SFits, rules}
 use Rattle.std.proofs.lemmas.Int.{to_z-of_z}
-use Rattle.format.specs.Tokens.{int, numeral_kind}
+use Rattle.format.specs.Tokens.{int}
+use Rattle.lexer.proofs.Cases.{handed}
+use Rattle.lexer.proofs.Numerals.{shown_as}
 use Rattle.lexer.proofs.Starts.{flawed_parts, run_reads, word_kind, number_kind}
 use Rattle.lexer.proofs.reads.run_at.Goals as goal
 
-pub returns-then-not-starts_number : goal.returns-then-not-starts_number
-returns-then-not-starts_number c =
+pub returns-then-not-starts_number-clause-is : goal.returns-then-not-starts_number-clause-is
+returns-then-not-starts_number-clause-is c =
     let told = c.run_end-to.ensures in
-    record {
-      is = run_reads _ _ _ _ c.requires told.low told.is (word_kind _ _ _ (sym c.if-not-starts_number.ensures));
-      takes = (omega arith, omega arith);
-    }
+    run_reads _ _ _ _ c.requires told.low told.is (word_kind _ _ _ (sym c.if-not-starts_number.ensures))
 
-pub returns-in-Unsigned : goal.returns-in-Unsigned
-unfolding numeral_kind
-returns-in-Unsigned c =
+pub returns-in_err-number-clause-is : goal.returns-in_err-number-clause-is
+returns-in_err-number-clause-is c =
     let told = c.run_end-to.ensures in
-    record {
-      is = run_reads _ _ _ _ c.requires told.low told.is (number_kind _ _ _ (sym c.if-not-starts_number.ensures) c.in-Unsigned.ensures);
-      takes = (omega arith, omega arith);
-    }
+    let z = handed c.from_residual.result c.in_err-number.field-0.0 c.from_residual.ensures.1 in
+    rw z (flawed_parts _ _ _ _ _ _ (run_reads _ _ _ _ c.requires told.low told.is (number_kind _ _ _ _ (sym c.if-not-starts_number.ensures) c.in_err-number.ensures)))
 
-pub returns-in-Fraction : goal.returns-in-Fraction
-unfolding numeral_kind
-returns-in-Fraction c =
+pub returns-in-Unsigned-clause-is : goal.returns-in-Unsigned-clause-is
+returns-in-Unsigned-clause-is c =
     let told = c.run_end-to.ensures in
-    record {
-      is = run_reads _ _ _ _ c.requires told.low told.is (number_kind _ _ _ (sym c.if-not-starts_number.ensures) c.in-Fraction.ensures);
-      takes = (omega arith, omega arith);
-    }
+    run_reads _ _ _ _ c.requires told.low told.is (number_kind _ _ _ _ (sym c.if-not-starts_number.ensures) (shown_as _ _ _ _ c.in-Unsigned.is c.in_ok-number.ensures))
 
-pub returns-in-PastBound : goal.returns-in-PastBound
-unfolding numeral_kind
-returns-in-PastBound c =
+pub returns-in-Fraction-clause-is : goal.returns-in-Fraction-clause-is
+returns-in-Fraction-clause-is c =
     let told = c.run_end-to.ensures in
-    record {
-      is = flawed_parts _ _ _ _ _ _ (run_reads _ _ _ _ c.requires told.low told.is (number_kind _ _ _ (sym c.if-not-starts_number.ensures) c.in-PastBound.ensures));
-      takes = tt;
-    }
+    run_reads _ _ _ _ c.requires told.low told.is (number_kind _ _ _ _ (sym c.if-not-starts_number.ensures) (shown_as _ _ _ _ c.in-Fraction.is c.in_ok-number.ensures))
 
-pub returns-in-NoNumber : goal.returns-in-NoNumber
-unfolding numeral_kind
-returns-in-NoNumber c =
-    let told = c.run_end-to.ensures in
-    record {
-      is = flawed_parts _ _ _ _ _ _ (run_reads _ _ _ _ c.requires told.low told.is (number_kind _ _ _ (sym c.if-not-starts_number.ensures) c.in-NoNumber.ensures));
-      takes = tt;
-    }
-
-pub returns-in-Signed : goal.returns-in-Signed
-unfolding numeral_kind
-returns-in-Signed c =
+pub returns-in-Signed-clause-is : goal.returns-in-Signed-clause-is
+returns-in-Signed-clause-is c =
     let told = c.run_end-to.ensures in
     let fits : SFits w32 c.in-Signed.z = search rules in
-    record {
-      is =
-          run_reads _ _ _ _ c.requires told.low told.is
-          (number_kind _ _ _ (sym c.if-not-starts_number.ensures) c.in-Signed.ensures ∙ ap (int false) (sym (to_z-of_z w32 c.in-Signed.z fits)));
-      takes = (omega arith, omega arith);
-    }
+    run_reads _ _ _ _ c.requires told.low told.is
+    (number_kind _ _ _ _ (sym c.if-not-starts_number.ensures) (shown_as _ _ _ _ c.in-Signed.is c.in_ok-number.ensures) ∙ ap (int false) (sym (to_z-of_z w32 c.in-Signed.z fits)))
