@@ -1,6 +1,5 @@
-use Rattle.std.proofs.Common.{true, ◌++◌, vec_items, sym, refl, ap, ◌∙◌, arith}
-use Rattle.std.proofs.lemmas.List.{take_all}
-use Rattle.scripts.specs.Dots.{dot_as, each_byte}
+use Rattle.std.proofs.Common.{true, vec_items, sym, refl, arith}
+use Rattle.scripts.specs.Dots.{dot_as}
 use Rattle.scripts.proofs.Dotting.{each_none, each_more, starts_more}
 use Rattle.scripts.proofs.dots.add_bytes.Goals as goal
 
@@ -13,8 +12,3 @@ loop-b-preserved c =
     let before = c.loop-b.invariant.0 in
     let more = each_more (dot_as c.args.dot.now) (vec_items c.args.out.now) c.args.bytes.now c.loop-b.b-index c.loop-b.starts (omega arith) c.loop-b.invariant.1 in
     (cc, sym (starts_more c.args.bytes.now c.loop-b.b-index (omega arith)))
-
-pub returns : goal.returns
-returns c =
-    let all = take_all c.loop-b.b-index c.args.bytes.now (omega arith) in
-    c.loop-b.invariant.0 ∙ ap (λ t. vec_items c.args.out.now ++ each_byte (dot_as c.args.dot.now) true t) all

@@ -1,4 +1,4 @@
-use Rattle.std.proofs.Common.{◌≡◌, ◌∷◌, length, ap, ◌∙◌, arith}
+use Rattle.std.proofs.Common.{◌≡◌, ◌∷◌, ap, ◌∙◌}
 use Rattle.std.proofs.lemmas.Result.{err_from_is_err_and}
 use Rattle.scripts.specs.Readers.{item_of, spelled_change}
 use Rattle.scripts.specs.Reads.{said_from}
@@ -32,9 +32,6 @@ loop-changes-preserved c =
       gathered_next (said_from c.loop-changes.reader) u c.loop-changes.invariant.0 f (said_from c.next.new.self) (found_first (goal.at.loop-changes-preserved c).In-Some) v added.0 added.1,
       order_with f.number (spelled_change f.change) u v c.loop-changes.invariant.1 small added.1,
     )
-
-pub loop-changes-smaller : goal.loop-changes-smaller
-loop-changes-smaller c = omega (arith, ap length (found_first (goal.at.loop-changes-smaller c).In-Some))
 
 pub returns : goal.returns
 returns c =
