@@ -1,7 +1,7 @@
 -- Bytes cut at their first LF.
-use Rattle.std.proofs.Common.{◌≡◌, ℕ, suc, ◌+◌, ◌-◌, ◌<◌, ◌≤◌, List, [], ◌∷◌, ◌++◌, length, get_or, take, drop, sym, refl, ap, ◌∙◌, inl, inr, arith}
+use Rattle.std.proofs.Common.{◌≡◌, ℕ, suc, ◌+◌, ◌-◌, ◌<◌, ◌≤◌, List, [], ◌∷◌, ◌++◌, length, get_or, take, drop, min, sym, refl, ap, ◌∙◌, ⊎_elim, inl, inr, arith}
 use Rattle.std.proofs.lemmas.List.{take-append-drop, take_more, take_all, drop_more, drop_all, drop-drop, get_or-take, length-drop, length-take-le}
-use Rattle.std.proofs.lemmas.Bool.{ne_eqb}
+use Rattle.std.proofs.lemmas.Bool.{cases_lt, ne_eqb}
 use Rattle.format.specs.Bytes.{Bytes}
 use Rattle.scripts.specs.Lines.{on_first, lines_of}
 use Rattle.scripts.specs.Walks.{part, LineAt}
@@ -46,11 +46,8 @@ module _ (src : Bytes) (from n end : ℕ) (begins : from < length src) (at : end
   long : length xs ≡ length src - from
   long = ap length is ∙ length-drop from src
 
-  front : take n xs ≡ part src from end
-  front = let e : end - from ≡ n = omega arith in rw e (ap (take n) is)
-
   -- the line ends in LF
-  pub line_cut : end < length src → (n < length xs → get_or xs n 0 ≡ 10) → LineAt src from (record { end = end; next = end + 1 })
+  line_cut : end < length src → (n < length xs → get_or xs n 0 ≡ 10) → LineAt src from (take n xs) (end + 1)
   line_cut h found =
       let l = long in
       let here = found (omega arith) in
@@ -60,16 +57,14 @@ module _ (src : Bytes) (from n end : ℕ) (begins : from < length src) (at : end
       let one : part src from (end + 1) ≡ take n xs ++ (10 ∷ []) =
       rw d (ap (take (n + 1)) (sym is) ∙ take_more xs n 0 (omega arith) ∙ ap (λ (b : ℕ). take n xs ++ (b ∷ [])) here) in
       record {
-        starts = omega arith;
         moves = omega arith;
-        within = omega arith;
         inside = omega arith;
-        is = ap lines_of (sym is) ∙ cut_front xs n (omega arith) before here ∙ rw (front, behind) refl;
-        text = inl (one ∙ ap (λ ys. ys ++ (10 ∷ [])) front);
+        is = ap lines_of (sym is) ∙ cut_front xs n (omega arith) before here ∙ rw behind refl;
+        text = inl one;
       }
 
   -- the script ends
-  pub line_last : length src ≤ end → LineAt src from (record { end = end; next = end })
+  line_last : length src ≤ end → LineAt src from (take n xs) end
   unfolding lines_of
   line_last h =
       let l = long in
@@ -77,10 +72,17 @@ module _ (src : Bytes) (from n end : ℕ) (begins : from < length src) (at : end
       let none : drop end src ≡ [] = drop_all end src h in
       let u : Unbroken xs = rw all at (unbroken_front xs n within before) in
       record {
-        starts = omega arith;
         moves = omega arith;
-        within = omega arith;
         inside = omega arith;
-        is = ap lines_of (sym is) ∙ lines_last xs u (omega arith) ∙ rw (sym front, none) (ap {B = List Bytes} (λ y. y ∷ []) (sym all));
+        is = ap lines_of (sym is) ∙ lines_last xs u (omega arith) ∙ rw none (ap {B = List Bytes} (λ y. y ∷ []) (sym all));
         text = inr h;
       }
+
+  -- the next line starts behind an LF, or the script ends
+  pub line_found : (next : ℕ) → next ≡ min (end + 1) (length src) → (n < length xs → get_or xs n 0 ≡ 10) → LineAt src from (take n xs) next
+  line_found next e found =
+      let l = long in
+      ⊎_elim
+      (λ (h : end < length src). let q : next ≡ end + 1 = omega arith in rw q (line_cut h found))
+      (λ (h : length src ≤ end). let q : next ≡ end = omega arith in rw q (line_last h))
+      (cases_lt end (length src))

@@ -3,7 +3,7 @@ use Rattle.std.proofs.Common.{◌≡◌, ℕ, ◌+◌, ◌<◌, Bool, true, fals
 use Rattle.std.proofs.lemmas.List.{take_more}
 use Rattle.std.proofs.lemmas.Bool.{ne_eqb, and_right}
 use Rattle.format.specs.Bytes.{Bytes}
-use Rattle.scripts.specs.Dots.{each_byte, with_dot, without_dot}
+use Rattle.scripts.specs.Dots.{dot_as, each_byte}
 
 -- whether the byte behind these starts a line
 abbrev pub starts_after : Bool → Bytes → Bool
@@ -38,20 +38,16 @@ each_more f out bytes i s h e =
     ∙ sym (ap (each_byte f true) (take_more bytes i 0 h) ∙ each_push f true (take i bytes) (get_or bytes i 0)))
 
 -- a dot that starts a line
-pub dot_more : (s : Bool) (x : ℕ) → s ≡ true → x ≡ 46 → 46 ∷ 46 ∷ [] ≡ with_dot s x
-unfolding with_dot
-dot_more s x e f = rw (e, f) refl
-
-pub dot_less : (s : Bool) (x : ℕ) → s ≡ true → x ≡ 46 → [] ≡ without_dot s x
-unfolding without_dot
-dot_less s x e f = rw (e, f) refl
+pub dot_start : (dot : Bytes) (s : Bool) (x : ℕ) → s ≡ true → x ≡ 46 → dot ≡ dot_as dot s x
+unfolding dot_as
+dot_start dot s x e f = rw (e, f) refl
 
 -- no line starts there
-pub same_inside : (s : Bool) (x : ℕ) → s ≡ false → (x ∷ [] ≡ with_dot s x) × (x ∷ [] ≡ without_dot s x)
-unfolding with_dot without_dot
-same_inside s x e = (rw e refl, rw e refl)
+pub same_inside : (dot : Bytes) (s : Bool) (x : ℕ) → s ≡ false → x ∷ [] ≡ dot_as dot s x
+unfolding dot_as
+same_inside dot s x e = rw e refl
 
 -- a byte that is no dot
-pub same_other : (s : Bool) (x : ℕ) → (x ≡ 46 → ⊥) → (x ∷ [] ≡ with_dot s x) × (x ∷ [] ≡ without_dot s x)
-unfolding with_dot without_dot
-same_other s x h = let e = and_right s (eqb x 46) (ne_eqb x 46 h) in (rw (e, with_dot) refl, rw (e, without_dot) refl)
+pub same_other : (dot : Bytes) (s : Bool) (x : ℕ) → (x ≡ 46 → ⊥) → x ∷ [] ≡ dot_as dot s x
+unfolding dot_as
+same_other dot s x h = let e = and_right s (eqb x 46) (ne_eqb x 46 h) in rw (e, dot_as) refl

@@ -1,12 +1,9 @@
 -- One append behind another.
-use Rattle.std.proofs.Common.{◌≡◌, ℕ, ◌+◌, ◌<◌, List, [], ◌∷◌, ◌++◌, length, get_or, take, codes, sym, refl, ap, ◌∙◌, append_assoc, append-nil}
-use Rattle.std.proofs.lemmas.List.{map_more}
+use Rattle.std.proofs.Common.{◌≡◌, ℕ, [], ◌∷◌, ◌++◌, codes, sym, refl, ap, ◌∙◌, append_assoc, append-nil}
 use Rattle.format.specs.Bytes.{Bytes}
 use Rattle.format.specs.Updates.{Change, body, removed, Update}
 use Rattle.format.specs.Writing.{decimal}
-use Rattle.scripts.specs.declared.row.Row.{Row}
 use Rattle.scripts.specs.Dots.{dotted}
-use Rattle.scripts.specs.Rows.{row_of, rows_of}
 use Rattle.scripts.specs.Scripts.{change_bytes, print_script}
 
 -- two parts
@@ -31,18 +28,13 @@ put_parts n b = simp append_assoc
 pub add_put : (out x y out' : Bytes) (n : ℕ) (b : Bytes) (c : Change) → body b ≡ c → x ≡ out ++ (codes "put " ++ (decimal n ++ (10 ∷ []))) → y ≡ x ++ dotted b → out' ≡ y ++ codes "\n.\n" → out' ≡ out ++ change_bytes n c
 add_put out x y out' n b c is e f g = three_parts out _ _ _ x y out' e f g ∙ ap (λ ys. out ++ ys) (put_parts n b ∙ ap (change_bytes n) is)
 
-printed_push : (u : Update) (r : ℕ × Change) → print_script (u ++ (r ∷ [])) ≡ print_script u ++ change_bytes r.0 r.1
+-- one change more is printed
+pub printed_more : (r : ℕ × Change) (rs : Update) (out out' whole : Bytes) → out ++ print_script (r ∷ rs) ≡ whole → out' ≡ out ++ change_bytes r.0 r.1 → out' ++ print_script rs ≡ whole
 unfolding print_script
-printed_push [] r = append-nil (change_bytes r.0 r.1)
-printed_push (x ∷ u) r = ap (λ ys. change_bytes x.0 x.1 ++ ys) (printed_push u r) ∙ sym (append_assoc (change_bytes x.0 x.1) (print_script u) (change_bytes r.0 r.1))
+printed_more r rs out out' whole was e =
+    ap (λ ys. ys ++ print_script rs) e ∙ append_assoc out (change_bytes r.0 r.1) (print_script rs) ∙ was
 
-pub printed_none : (out : Bytes) → out ≡ [] → out ≡ print_script []
+-- all is printed
+pub printed_all : (out whole : Bytes) → out ++ print_script [] ≡ whole → out ≡ whole
 unfolding print_script
-printed_none out e = e
-
--- one row more
-pub printed_more : (rs : List Row) (i : ℕ) (x : Row) (out out' : Bytes) → i < length rs → x ≡ get_or rs i x → out ≡ print_script (rows_of (take i rs)) → out' ≡ out ++ change_bytes (row_of x).0 (row_of x).1 → out' ≡ print_script (rows_of (take (i + 1) rs))
-printed_more rs i x out out' h is was e =
-    e
-    ∙ ap (λ ys. ys ++ change_bytes (row_of x).0 (row_of x).1) was
-    ∙ sym (ap print_script (map_more row_of rs i x h ∙ ap (λ y. rows_of (take i rs) ++ (row_of y ∷ [])) (sym is)) ∙ printed_push (rows_of (take i rs)) (row_of x))
+printed_all out whole was = sym (append-nil out) ∙ was

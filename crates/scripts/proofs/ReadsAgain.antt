@@ -1,5 +1,5 @@
 -- What a script is read as ascends, and its numbers have at most ten digits.
-use Rattle.std.proofs.Common.{◌≡◌, ℕ, suc, ◌^◌, ◌<◌, ◌≤◌, eqb, ltb, List, [], ◌∷◌, ◌++◌, is_some, Ok, sym, refl, arith}
+use Rattle.std.proofs.Common.{◌≡◌, ℕ, suc, ◌^◌, ◌<◌, ◌≤◌, eqb, ltb, List, [], ◌∷◌, ◌++◌, is_some, Some, None, Ok, Err, Option, Result, sym, refl, arith}
 use Rattle.std.proofs.lemmas.Bool.{ltb-true, ltb-false, eqb-true, eqb-false}
 use Rattle.format.specs.Acceptable.{Ascends}
 use Rattle.format.specs.Bytes.{Bytes}
@@ -9,9 +9,9 @@ use Rattle.locality.proofs.Cases.{cases}
 use Rattle.locality.proofs.Tests.{clash}
 use Rattle.scripts.specs.declared.error.Mistake.{Mistake}
 use Rattle.scripts.specs.declared.line.BodyLine.{BodyLine}
-use Rattle.scripts.specs.declared.line.BodyLine.TheVariants.{Text, End, Dot}
+use Rattle.scripts.specs.declared.line.BodyLine.TheVariants.{Text, End}
 use Rattle.scripts.specs.declared.line.Head.{Head}
-use Rattle.scripts.specs.declared.line.Head.TheVariants.{Nothing, Remove, Put, Wrong}
+use Rattle.scripts.specs.declared.line.Head.TheVariants.{Remove, Put}
 use Rattle.scripts.specs.Lines.{lines_of, head_of, body_line_of}
 use Rattle.scripts.specs.Scripts.{Item, change, stop, Where, between, inside, items_of, said_by, gathered, read_script}
 use Rattle.scripts.specs.Theorems.{Spellable, ReadsAgain}
@@ -55,16 +55,16 @@ abbrev SmallWhere : Where → Type 0
 SmallWhere between = Unit {0}
 SmallWhere (inside s n t) = n < 10 ^ 10
 
-by_head : {P : Type 0} (h : Head) → (h ≡ Nothing → P) → ((n : ℕ) → h ≡ Remove n → P) → ((n : ℕ) → h ≡ Put n → P) → ((m : Mistake) → h ≡ Wrong m → P) → P
-by_head Nothing a b c d = a refl
-by_head (Remove n) a b c d = b n refl
-by_head (Put n) a b c d = c n refl
-by_head (Wrong m) a b c d = d m refl
+by_head : {P : Type 0} (r : Result (Option Head) Mistake) → (r ≡ Ok None → P) → ((n : ℕ) → r ≡ Ok (Some (Remove n)) → P) → ((n : ℕ) → r ≡ Ok (Some (Put n)) → P) → ((m : Mistake) → r ≡ Err m → P) → P
+by_head (Ok None) a b c d = a refl
+by_head (Ok (Some (Remove n))) a b c d = b n refl
+by_head (Ok (Some (Put n))) a b c d = c n refl
+by_head (Err m) a b c d = d m refl
 
-by_body_line : {P : Type 0} (l : BodyLine) → (l ≡ Text → P) → (l ≡ End → P) → (l ≡ Dot → P) → P
-by_body_line Text a b c = a refl
-by_body_line End a b c = b refl
-by_body_line Dot a b c = c refl
+by_body_line : {P : Type 0} (r : Result BodyLine Mistake) → (r ≡ Ok Text → P) → (r ≡ Ok End → P) → ((m : Mistake) → r ≡ Err m → P) → P
+by_body_line (Ok Text) a b c = a refl
+by_body_line (Ok End) a b c = b refl
+by_body_line (Err m) a b c = c m refl
 
 items_small : (w : Where) (k : ℕ) (ls : List Bytes) → SmallWhere w → SmallItems (items_of w k ls)
 unfolding items_of
@@ -80,7 +80,7 @@ items_small (inside s n t) k (l ∷ ls) h =
     by_body_line (body_line_of l)
     (λ e. rw (e, items_of) (items_small (inside s n (t ++ (l ++ (10 ∷ [])))) (suc k) ls h))
     (λ e. rw (e, items_of) (h, items_small between (suc k) ls tt))
-    (λ e. rw (e, items_of) tt)
+    (λ m e. rw (e, items_of) tt)
 
 gathered_sound : (is : List Item) (acc u : Update) → SmallItems is → Ascends 0 acc → Spellable acc → gathered is acc ≡ Ok u → Ascends 0 u × Spellable u
 unfolding gathered

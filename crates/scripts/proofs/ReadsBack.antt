@@ -1,5 +1,5 @@
 -- A script that was printed of an update is read as that update.
-use Rattle.std.proofs.Common.{◌≡◌, ℕ, suc, ◌^◌, ◌<◌, ◌≤◌, true, false, eqb, ltb, List, [], ◌∷◌, ◌++◌, is_some, Some, None, Ok, codes, Result, sym, refl, ap, ◌∙◌, append_assoc, append-nil, arith}
+use Rattle.std.proofs.Common.{◌≡◌, ℕ, suc, ◌^◌, ◌<◌, ◌≤◌, true, false, eqb, ltb, List, [], ◌∷◌, ◌++◌, is_some, Some, None, Ok, codes, Option, Result, sym, refl, ap, ◌∙◌, append_assoc, append-nil, arith}
 use Rattle.std.proofs.lemmas.Bool.{ne_eqb, le-ltb}
 use Rattle.format.specs.Acceptable.{Ascends}
 use Rattle.format.specs.Bytes.{Bytes, every}
@@ -13,7 +13,7 @@ use Rattle.sections.proofs.Digits.{spells, digits_taken}
 use Rattle.scripts.specs.declared.error.ScriptError.{ScriptError}
 use Rattle.scripts.specs.declared.line.Head.TheVariants.{Remove, Put}
 use Rattle.scripts.specs.Dots.{dotted}
-use Rattle.scripts.specs.Lines.{lines_of, whole, number_of, putting, removing, remove_of, put_of, head_of}
+use Rattle.scripts.specs.Lines.{lines_of, whole, number_of, numbered, remove_of, put_of, saying, head_of}
 use Rattle.scripts.specs.Scripts.{Item, change, between, items_of, said_by, gathered, read_script, change_bytes, print_script}
 use Rattle.scripts.specs.Theorems.{Spellable, PrintedReadsBack}
 use Rattle.scripts.proofs.Cut.{lines_cut}
@@ -25,13 +25,13 @@ number_back : (n : ℕ) → n < 10 ^ 10 → number_of (decimal n) ≡ Some n
 unfolding number_of whole begins_digit
 number_back n h = ap whole (ap (digits 0) (sym (append-nil (decimal n))) ∙ digits_taken 0 n (decimal n) [] (spells n h) refl)
 
-remove_back : (n : ℕ) → n < 10 ^ 10 → head_of (codes "remove " ++ decimal n) ≡ Remove n
-unfolding head_of put_of remove_of removing behind
-remove_back n h = ap removing (number_back n h)
+remove_back : (n : ℕ) → n < 10 ^ 10 → head_of (codes "remove " ++ decimal n) ≡ Ok (Some (Remove n))
+unfolding head_of put_of remove_of numbered saying behind
+remove_back n h = ap (λ (o : Option ℕ). saying (numbered (λ k. Remove k) o)) (number_back n h)
 
-put_back : (n : ℕ) → n < 10 ^ 10 → head_of (codes "put " ++ decimal n) ≡ Put n
-unfolding head_of put_of putting behind
-put_back n h = ap putting (number_back n h)
+put_back : (n : ℕ) → n < 10 ^ 10 → head_of (codes "put " ++ decimal n) ≡ Ok (Some (Put n))
+unfolding head_of put_of numbered saying behind
+put_back n h = ap (λ (o : Option ℕ). saying (numbered (λ k. Put k) o)) (number_back n h)
 
 decimal_plain : (n : ℕ) → n < 10 ^ 10 → every is_plain (decimal n) ≡ true
 decimal_plain n h = digits_plain (decimal n) (spells n h).digit

@@ -1,5 +1,5 @@
 -- Numbers that a script names have at most ten digits.
-use Rattle.std.proofs.Common.{◌≡◌, ℕ, suc, ◌+◌, ◌-◌, ◌*◌, ◌^◌, ◌<◌, ◌≤◌, true, eqb, leb, [], ◌∷◌, length, Some, None, codes, Option, refl, arith, lit<}
+use Rattle.std.proofs.Common.{◌≡◌, ℕ, suc, ◌+◌, ◌-◌, ◌*◌, ◌^◌, ◌<◌, ◌≤◌, true, eqb, leb, [], ◌∷◌, length, Some, None, Ok, Err, codes, Option, Result, refl, arith, lit<}
 use native.Mathlib.Nat.{pow-le-pow_right}
 use Rattle.std.proofs.lemmas.Bool.{leb-true}
 use Rattle.format.specs.Bytes.{Bytes, is_digit, span, every, value, value_on}
@@ -8,9 +8,10 @@ use Rattle.format.specs.Lines.{took, is_empty, counted, digits}
 use Rattle.locality.proofs.Cases.{cases}
 use Rattle.locality.proofs.Tests.{clash, and_left, and_right}
 use Rattle.opening.proofs.Digits.{grows}
+use Rattle.scripts.specs.declared.error.Mistake.{Mistake}
 use Rattle.scripts.specs.declared.line.Head.{Head}
-use Rattle.scripts.specs.Lines.{whole, number_of, putting, removing, remove_of, put_of, head_of}
-use Rattle.scripts.specs.Walks.{SmallHead}
+use Rattle.scripts.specs.declared.line.Head.TheVariants.{Remove, Put}
+use Rattle.scripts.specs.Lines.{whole, number_of, numbered, remove_of, put_of, saying, head_of}
 
 span_passes : (p : ℕ) (xs : Bytes) → every is_digit (span is_digit p xs).0 ≡ true
 unfolding span every
@@ -55,31 +56,53 @@ number_small : (xs : Bytes) (n : ℕ) → number_of xs ≡ Some n → n < 10 ^ 1
 unfolding number_of digits
 number_small xs n e = counted_small (span is_digit 0 xs) n (span_passes 0 xs) e
 
-put_small : (xs : Bytes) (o : Option ℕ) → number_of xs ≡ o → SmallHead (putting o)
-unfolding putting
+-- a number of at most ten digits
+abbrev pub SmallHead : Head → Type 0
+SmallHead (Remove n) = n < 10 ^ 10
+SmallHead (Put n) = n < 10 ^ 10
+
+abbrev SmallChange : Result Head Mistake → Type 0
+SmallChange (Ok h) = SmallHead h
+SmallChange (Err m) = Unit {0}
+
+abbrev SmallLine : Result (Option Head) Mistake → Type 0
+SmallLine (Ok None) = Unit {0}
+SmallLine (Ok (Some h)) = SmallHead h
+SmallLine (Err m) = Unit {0}
+
+put_small : (xs : Bytes) (o : Option ℕ) → number_of xs ≡ o → SmallChange (numbered (λ n. Put n) o)
+unfolding numbered
 put_small xs (Some n) e = number_small xs n e
 put_small xs None e = tt
 
-remove_small : (xs : Bytes) (o : Option ℕ) → number_of xs ≡ o → SmallHead (removing o)
-unfolding removing
+remove_small : (xs : Bytes) (o : Option ℕ) → number_of xs ≡ o → SmallChange (numbered (λ n. Remove n) o)
+unfolding numbered
 remove_small xs (Some n) e = number_small xs n e
 remove_small xs None e = tt
 
-removal_small : (o : Option Bytes) → SmallHead (remove_of o)
+removal_small : (o : Option Bytes) → SmallChange (remove_of o)
 unfolding remove_of
 removal_small (Some ds) = remove_small ds _ refl
 removal_small None = tt
 
-change_small : (l : Bytes) (o : Option Bytes) → SmallHead (put_of l o)
+change_small : (l : Bytes) (o : Option Bytes) → SmallChange (put_of l o)
 unfolding put_of
 change_small l (Some ds) = put_small ds _ refl
 change_small l None = removal_small (behind (codes "remove ") l)
 
-line_small : (l : Bytes) → SmallHead (head_of l)
+said_small : (r : Result Head Mistake) → SmallChange r → SmallLine (saying r)
+unfolding saying
+said_small (Ok h) s = s
+said_small (Err m) s = tt
+
+line_small : (l : Bytes) → SmallLine (head_of l)
 unfolding head_of
 line_small [] = tt
-line_small (x ∷ xs) = cases (eqb x 35) (λ e. rw (e, head_of) tt) (λ e. rw (e, head_of) (change_small (x ∷ xs) (behind (codes "put ") (x ∷ xs))))
+line_small (x ∷ xs) =
+    cases (eqb x 35)
+    (λ e. rw (e, head_of) tt)
+    (λ e. rw (e, head_of) (said_small _ (change_small (x ∷ xs) (behind (codes "put ") (x ∷ xs)))))
 
 -- the number of a line has at most ten digits
-pub head_small : (l : Bytes) (h : Head) → head_of l ≡ h → SmallHead h
+pub head_small : (l : Bytes) (h : Head) → head_of l ≡ Ok (Some h) → SmallHead h
 head_small l h e = rw e at (line_small l)

@@ -1,44 +1,51 @@
--- One line more: what a script says from a place on, by the line that starts there.
-use Rattle.std.proofs.Common.{◌≡◌, ℕ, suc, ◌+◌, ◌-◌, ◌≤◌, List, [], ◌∷◌, ◌++◌, length, take, drop, sym, refl, ap, ◌∙◌, ⊎_elim, add-one, arith, take-add}
+-- One line more: what a script says from a cursor on, by the line that starts there.
+use Rattle.std.proofs.Common.{◌≡◌, ℕ, suc, ◌+◌, ◌-◌, ◌≤◌, List, [], ◌∷◌, ◌++◌, length, take, drop, Some, None, Ok, Err, sym, refl, ap, ◌∙◌, ⊎_elim, add-one, arith, take-add}
 use Rattle.std.proofs.lemmas.List.{drop-drop, drop_all, take-take, length-take-le, length-drop}
 use Rattle.format.specs.Bytes.{Bytes}
-use Rattle.format.specs.Updates.{body}
-use Rattle.scripts.specs.declared.error.Mistake.TheVariants.{SingleDot, NoEnd}
-use Rattle.scripts.specs.declared.line.BodyLine.TheVariants.{Text, End, Dot}
+use Rattle.format.specs.Updates.{body, removed}
+use Rattle.scripts.specs.declared.cursor.Cursor.{Cursor}
+use Rattle.scripts.specs.declared.error.Mistake.{Mistake}
+use Rattle.scripts.specs.declared.error.Mistake.TheVariants.{NoEnd}
+use Rattle.scripts.specs.declared.line.BodyLine.TheVariants.{Text, End}
 use Rattle.scripts.specs.declared.line.Head.{Head}
-use Rattle.scripts.specs.declared.line.Head.TheVariants.{Nothing, Remove, Put, Wrong}
-use Rattle.scripts.specs.declared.line.Line.{Line}
+use Rattle.scripts.specs.declared.line.Head.TheVariants.{Remove, Put}
 use Rattle.scripts.specs.Dots.{undotted, without_last}
 use Rattle.scripts.specs.Errors.{wrong_at}
 use Rattle.scripts.specs.Lines.{lines_of, head_of, body_line_of}
-use Rattle.scripts.specs.Scripts.{Item, change, stop, between, inside, items_of}
-use Rattle.scripts.specs.Walks.{part, LineAt, said, head_said}
+use Rattle.scripts.specs.Scripts.{Item, change, stop, Where, between, inside, items_of}
+use Rattle.scripts.specs.Walks.{part, HeadRead, LineRead, said, said_at}
+use Rattle.scripts.proofs.Small.{head_small}
 
 -- a line that says nothing
-pub nothing_said : (k : ℕ) (l : Bytes) (ls : List Bytes) → head_of l ≡ Nothing → items_of between k (l ∷ ls) ≡ items_of between (suc k) ls
+pub nothing_said : (k : ℕ) (l : Bytes) (ls : List Bytes) → head_of l ≡ Ok None → items_of between k (l ∷ ls) ≡ items_of between (suc k) ls
 unfolding items_of
 nothing_said k l ls e = rw (e, items_of) refl
 
 -- a line that says something
-pub head_said_fact : (src : Bytes) (q k : ℕ) (l : Bytes) (h : Head) → head_of l ≡ h → (h ≡ Nothing → ⊥) → items_of between k (l ∷ lines_of (drop q src)) ≡ head_said src q k h
+removal_said : (k n : ℕ) (l : Bytes) (ls : List Bytes) → head_of l ≡ Ok (Some (Remove n)) → items_of between k (l ∷ ls) ≡ change k n removed ∷ items_of between (suc k) ls
 unfolding items_of
-head_said_fact src q k l Nothing e no-head = absurd (no-head refl)
-head_said_fact src q k l (Remove n) e no-head = rw (e, items_of) refl
-head_said_fact src q k l (Put n) e no-head = rw (e, items_of) refl
-head_said_fact src q k l (Wrong m) e no-head = rw (e, items_of) refl
+removal_said k n l ls e = rw (e, items_of) refl
+
+put_said : (k n : ℕ) (l : Bytes) (ls : List Bytes) → head_of l ≡ Ok (Some (Put n)) → items_of between k (l ∷ ls) ≡ items_of (inside k n []) (suc k) ls
+unfolding items_of
+put_said k n l ls e = rw (e, items_of) refl
+
+mistake_said : (k : ℕ) (l : Bytes) (ls : List Bytes) (m : Mistake) → head_of l ≡ Err m → items_of between k (l ∷ ls) ≡ stop (wrong_at k m) ∷ []
+unfolding items_of
+mistake_said k l ls m e = rw (e, items_of) refl
 
 -- a line of a body
-pub text_said : (s n : ℕ) (t : Bytes) (k : ℕ) (l : Bytes) (ls : List Bytes) → body_line_of l ≡ Text → items_of (inside s n t) k (l ∷ ls) ≡ items_of (inside s n (t ++ (l ++ (10 ∷ [])))) (suc k) ls
+pub text_said : (s n : ℕ) (t : Bytes) (k : ℕ) (l : Bytes) (ls : List Bytes) → body_line_of l ≡ Ok Text → items_of (inside s n t) k (l ∷ ls) ≡ items_of (inside s n (t ++ (l ++ (10 ∷ [])))) (suc k) ls
 unfolding items_of
 text_said s n t k l ls e = rw (e, items_of) refl
 
-pub end_said : (s n : ℕ) (t : Bytes) (k : ℕ) (l : Bytes) (ls : List Bytes) → body_line_of l ≡ End → items_of (inside s n t) k (l ∷ ls) ≡ change s n (body (undotted (without_last t))) ∷ items_of between (suc k) ls
+pub end_said : (s n : ℕ) (t : Bytes) (k : ℕ) (l : Bytes) (ls : List Bytes) → body_line_of l ≡ Ok End → items_of (inside s n t) k (l ∷ ls) ≡ change s n (body (undotted (without_last t))) ∷ items_of between (suc k) ls
 unfolding items_of
 end_said s n t k l ls e = rw (e, items_of) refl
 
-dot_said : (s n : ℕ) (t : Bytes) (k : ℕ) (l : Bytes) (ls : List Bytes) → body_line_of l ≡ Dot → items_of (inside s n t) k (l ∷ ls) ≡ stop (wrong_at k SingleDot) ∷ []
+wrong_said : (s n : ℕ) (t : Bytes) (k : ℕ) (l : Bytes) (ls : List Bytes) (m : Mistake) → body_line_of l ≡ Err m → items_of (inside s n t) k (l ∷ ls) ≡ stop (wrong_at k m) ∷ []
 unfolding items_of
-dot_said s n t k l ls e = rw (e, items_of) refl
+wrong_said s n t k l ls m e = rw (e, items_of) refl
 
 -- no line more
 none_said : (k : ℕ) → items_of between k [] ≡ []
@@ -70,72 +77,95 @@ part_shorter src a b h l =
     let e : length (part src a b) ≡ b - a = length-take-le (b - a) (drop a src) (omega arith) in
     ap (λ k. take (k - 1) (part src a b)) e ∙ take-take (b - a - 1) (b - a) (drop a src) (omega arith)
 
+-- the line after the one at hand, however it is counted
+line_on : (w : Where) (was is : Cursor) (line : Bytes) → LineRead was line is → items_of w (suc (suc was.lines)) (lines_of (drop is.place was.src.now)) ≡ said_at w is
+line_on w was is line r =
+    sym (ap (λ s. said w s is.place is.lines) r.same ∙ ap (λ k. said w was.src.now is.place k) (r.counted ∙ add-one was.lines))
+
 -- between changes
-module _ (src : Bytes) (p lines : ℕ) {z : List Item} (was : said between src p lines ≡ z) where
+module _ (was : Cursor) {z : List Item} (said_was : said_at between was ≡ z) where
   -- the script ends
-  pub head_none : length src ≤ p → z ≡ []
-  head_none h = sym was ∙ ap (items_of between (suc lines)) (no_lines src p h) ∙ none_said _
+  pub head_none : length was.src.now ≤ was.place → z ≡ []
+  head_none h = sym said_was ∙ ap (items_of between (suc was.lines)) (no_lines was.src.now was.place h) ∙ none_said _
 
-  module _ (line : Line) (at : LineAt src p line) where
-    pub head_past : head_of (part src p line.end) ≡ Nothing → said between src line.next (lines + 1) ≡ z
-    head_past e =
-        sym (ap (items_of between (suc lines)) at.is
-        ∙ nothing_said _ _ _ e
-        ∙ ap (λ k. items_of between (suc k) (lines_of (drop line.next src))) (sym (add-one lines)))
-        ∙ was
+  module _ (is : Cursor) (line : Bytes) (r : LineRead was line is) where
+    first_line : items_of between (suc was.lines) (line ∷ lines_of (drop is.place was.src.now)) ≡ z
+    first_line = sym (ap (items_of between (suc was.lines)) r.at.is) ∙ said_was
 
-    pub head_here : (h : Head) → head_of (part src p line.end) ≡ h → (h ≡ Nothing → ⊥) → z ≡ head_said src line.next (lines + 1) h
-    head_here h e no-head =
-        sym was
-        ∙ ap (items_of between (suc lines)) at.is
-        ∙ head_said_fact src line.next (suc lines) _ h e no-head
-        ∙ ap (λ k. head_said src line.next k h) (sym (add-one lines))
+    pub head_past : head_of line ≡ Ok None → said_at between is ≡ z
+    head_past e = sym (nothing_said _ _ _ e ∙ line_on between was is line r) ∙ first_line
 
--- in a body
-module _ (src : Bytes) (from p lines s n : ℕ) {z : List Item} (was : said (inside s n (part src from p)) src p lines ≡ z) where
-  pub body_unended : length src ≤ p → z ≡ stop (wrong_at s NoEnd) ∷ []
-  body_unended h = sym was ∙ ap (items_of (inside s n (part src from p)) (suc lines)) (no_lines src p h) ∙ unended_said _ _ _ _
+    pub head_removes : (n : ℕ) → head_of line ≡ Ok (Some (Remove n)) → z ≡ change is.lines n removed ∷ said_at between is
+    head_removes n e =
+        sym first_line
+        ∙ removal_said _ n _ _ e
+        ∙ ap (λ js. change (suc was.lines) n removed ∷ js) (line_on between was is line r)
+        ∙ ap (λ k. change k n removed ∷ said_at between is) (sym (r.counted ∙ add-one was.lines))
 
-  module _ (line : Line) (at : LineAt src p line) where
-    read_line : z ≡ items_of (inside s n (part src from p)) (suc lines) (part src p line.end ∷ lines_of (drop line.next src))
-    read_line = sym was ∙ ap (items_of (inside s n (part src from p)) (suc lines)) at.is
+    pub head_puts : (n : ℕ) → head_of line ≡ Ok (Some (Put n)) → z ≡ said_at (inside is.lines n []) is
+    head_puts n e =
+        sym first_line
+        ∙ put_said _ n _ _ e
+        ∙ line_on (inside (suc was.lines) n []) was is line r
+        ∙ ap (λ k. said_at (inside k n []) is) (sym (r.counted ∙ add-one was.lines))
 
-    pub body_text : from ≤ p → body_line_of (part src p line.end) ≡ Text → said (inside s n (part src from line.next)) src line.next (lines + 1) ≡ z
+    pub head_wrong : (m : Mistake) → head_of line ≡ Err m → z ≡ stop (wrong_at is.lines m) ∷ []
+    head_wrong m e =
+        sym first_line ∙ mistake_said _ _ _ m e ∙ ap (λ k. stop (wrong_at k m) ∷ []) (sym (r.counted ∙ add-one was.lines))
+
+-- the next line that says something was read, behind others that say nothing
+pub head_found : (start was is : Cursor) (line : Bytes) (h : Head) → said_at between was ≡ said_at between start → LineRead was line is → head_of line ≡ Ok (Some h) → HeadRead start (Ok (Some h)) is
+head_found start was is line (Remove n) w r e = (head_removes was w is line r n e, head_small line (Remove n) e)
+head_found start was is line (Put n) w r e = (head_puts was w is line r n e, head_small line (Put n) e)
+
+-- in a body that starts at a place of the script
+module _ (src : Bytes) (from s n : ℕ) (was : Cursor) {z : List Item} (of : was.src.now ≡ src) (said_was : said_at (inside s n (part src from was.place)) was ≡ z) where
+  pub body_unended : length src ≤ was.place → z ≡ stop (wrong_at s NoEnd) ∷ []
+  body_unended h =
+      sym said_was ∙ ap (items_of (inside s n (part src from was.place)) (suc was.lines)) (ap (λ t. lines_of (drop was.place t)) of ∙ no_lines src was.place h) ∙ unended_said _ _ _ _
+
+  module _ (is : Cursor) (line : Bytes) (r : LineRead was line is) where
+    read_line : z ≡ items_of (inside s n (part src from was.place)) (suc was.lines) (line ∷ lines_of (drop is.place was.src.now))
+    read_line = sym said_was ∙ ap (items_of (inside s n (part src from was.place)) (suc was.lines)) r.at.is
+
+    pub body_text : from ≤ was.place → body_line_of line ≡ Ok Text → said_at (inside s n (part src from is.place)) is ≡ z
     body_text h e =
-        ap (λ k. items_of (inside s n (part src from line.next)) (suc k) (lines_of (drop line.next src))) (add-one lines)
-        ∙ ⊎_elim lf last at.text
+        sym (line_on (inside s n (part src from is.place)) was is line r)
+        ∙ ⊎_elim lf last r.at.text
         ∙ sym (text_said _ _ _ _ _ _ e)
         ∙ sym read_line
       where
         rest : List Bytes
-        rest = lines_of (drop line.next src)
+        rest = lines_of (drop is.place was.src.now)
 
         grown : Bytes
-        grown = part src from p ++ (part src p line.end ++ (10 ∷ []))
+        grown = part src from was.place ++ (line ++ (10 ∷ []))
 
-        lf : part src p line.next ≡ part src p line.end ++ (10 ∷ []) → items_of (inside s n (part src from line.next)) (suc (suc lines)) rest ≡ items_of (inside s n grown) (suc (suc lines)) rest
+        lf : part was.src.now was.place is.place ≡ line ++ (10 ∷ []) → items_of (inside s n (part src from is.place)) (suc (suc was.lines)) rest ≡ items_of (inside s n grown) (suc (suc was.lines)) rest
         lf t =
-            let m = at.moves in
-            ap (λ ys. items_of (inside s n ys) (suc (suc lines)) rest)
-            (part_joined src from p line.next h (omega arith) ∙ ap (λ ys. part src from p ++ ys) t)
+            let m = r.at.moves in
+            let here : part src was.place is.place ≡ line ++ (10 ∷ []) = sym (ap (λ xs. part xs was.place is.place) of) ∙ t in
+            ap (λ ys. items_of (inside s n ys) (suc (suc was.lines)) rest)
+            (part_joined src from was.place is.place h (omega arith) ∙ ap (λ ys. part src from was.place ++ ys) here)
 
-        last : length src ≤ line.next → items_of (inside s n (part src from line.next)) (suc (suc lines)) rest ≡ items_of (inside s n grown) (suc (suc lines)) rest
+        last : length was.src.now ≤ is.place → items_of (inside s n (part src from is.place)) (suc (suc was.lines)) rest ≡ items_of (inside s n grown) (suc (suc was.lines)) rest
         last l =
-            let none : rest ≡ [] = no_lines src line.next l in
-            ap (items_of (inside s n (part src from line.next)) (suc (suc lines))) none
+            let none : rest ≡ [] = no_lines was.src.now is.place l in
+            ap (items_of (inside s n (part src from is.place)) (suc (suc was.lines))) none
             ∙ unended_said _ _ _ _
-            ∙ sym (unended_said s n grown (suc (suc lines)))
-            ∙ sym (ap (items_of (inside s n grown) (suc (suc lines))) none)
+            ∙ sym (unended_said s n grown (suc (suc was.lines)))
+            ∙ sym (ap (items_of (inside s n grown) (suc (suc was.lines))) none)
 
-    pub body_ended : (count : ℕ) → count ≡ p - from - 1 → from ≤ p → body_line_of (part src p line.end) ≡ End → z ≡ change s n (body (undotted (take count (drop from src)))) ∷ said between src line.next (lines + 1)
+    pub body_ended : (count : ℕ) → count ≡ was.place - from - 1 → from ≤ was.place → body_line_of line ≡ Ok End → z ≡ change s n (body (undotted (take count (drop from src)))) ∷ said_at between is
     body_ended count c h e =
-        let i = at.inside in
-        let m = at.moves in
+        let i = r.at.inside in
+        let m = r.at.moves in
+        let long = ap length of in
         read_line
         ∙ end_said _ _ _ _ _ _ e
-        ∙ ap (λ t. change s n (body (undotted t)) ∷ items_of between (suc (suc lines)) (lines_of (drop line.next src)))
-        (part_shorter src from p h (omega arith) ∙ ap (λ k. take k (drop from src)) (sym c))
-        ∙ ap (λ k. change s n (body (undotted (take count (drop from src)))) ∷ items_of between (suc k) (lines_of (drop line.next src))) (sym (add-one lines))
+        ∙ ap (λ t. change s n (body (undotted t)) ∷ items_of between (suc (suc was.lines)) (lines_of (drop is.place was.src.now)))
+        (part_shorter src from was.place h (omega arith) ∙ ap (λ k. take k (drop from src)) (sym c))
+        ∙ ap (λ js. change s n (body (undotted (take count (drop from src)))) ∷ js) (line_on between was is line r)
 
-    pub body_dot : body_line_of (part src p line.end) ≡ Dot → z ≡ stop (wrong_at (lines + 1) SingleDot) ∷ []
-    body_dot e = read_line ∙ dot_said _ _ _ _ _ _ e ∙ ap (λ k. stop (wrong_at k SingleDot) ∷ []) (sym (add-one lines))
+    pub body_wrong : (m : Mistake) → body_line_of line ≡ Err m → z ≡ stop (wrong_at is.lines m) ∷ []
+    body_wrong m e = read_line ∙ wrong_said _ _ _ _ _ _ m e ∙ ap (λ k. stop (wrong_at k m) ∷ []) (sym (r.counted ∙ add-one was.lines))

@@ -1,5 +1,5 @@
 -- A body that was printed is read again.
-use Rattle.std.proofs.Common.{◌≡◌, ℕ, suc, ◌-◌, Bool, true, false, ◌&&◌, eqb, [], ◌∷◌, ◌++◌, length, sym, refl, ap, ◌∙◌, append_assoc, append-nil, arith, length-append}
+use Rattle.std.proofs.Common.{◌≡◌, ℕ, suc, ◌-◌, Bool, true, false, ◌&&◌, eqb, [], ◌∷◌, ◌++◌, length, Ok, sym, refl, ap, ◌∙◌, append_assoc, append-nil, arith, length-append}
 use Rattle.std.proofs.lemmas.List.{take_at}
 use Rattle.std.proofs.lemmas.Bool.{eqb-true, eqb-false, ne_eqb, and_parts}
 use Rattle.format.specs.Bytes.{Bytes, every}
@@ -8,7 +8,7 @@ use Rattle.format.specs.Updates.{body}
 use Rattle.locality.proofs.Cases.{cases}
 use Rattle.sections.proofs.Digits.{every_++}
 use Rattle.scripts.specs.declared.line.BodyLine.TheVariants.{Text}
-use Rattle.scripts.specs.Dots.{each_byte, with_dot, without_dot, dotted, undotted, without_last}
+use Rattle.scripts.specs.Dots.{dot_as, each_byte, with_dot, without_dot, dotted, undotted, without_last}
 use Rattle.scripts.specs.Lines.{lines_of, body_line_of, after_dot}
 use Rattle.scripts.specs.Scripts.{change, between, inside, items_of}
 use Rattle.scripts.proofs.Cut.{lines_cut}
@@ -17,7 +17,7 @@ use Rattle.scripts.proofs.Steps.{text_said, end_said}
 
 -- the dots come and go
 dots_back : (s : Bool) (b : Bytes) → each_byte without_dot s (each_byte with_dot s b) ≡ b
-unfolding each_byte with_dot without_dot
+unfolding each_byte dot_as
 dots_back s [] = refl
 dots_back s (x ∷ b) =
     cases (s && eqb x 46)
@@ -25,7 +25,7 @@ dots_back s (x ∷ b) =
     let p = and_parts s (eqb x 46) e in
     let d : x ≡ 46 = eqb-true x 46 p.1 in
     rw (p.0, d) (ap {B = Bytes} (λ ys. 46 ∷ ys) (dots_back false b)))
-    (λ e. rw (e, with_dot) (rw (e, without_dot) (ap {B = Bytes} (λ ys. x ∷ ys) (dots_back (eqb x 10) b))))
+    (λ e. rw (e, dot_as) (rw (e, dot_as) (ap {B = Bytes} (λ ys. x ∷ ys) (dots_back (eqb x 10) b))))
 
 pub undotted_dotted : (b : Bytes) → undotted (dotted b) ≡ b
 unfolding undotted dotted
@@ -45,7 +45,7 @@ Safe [] = Unit {0}
 Safe (x ∷ []) = x ≡ 46 → ⊥
 Safe (x ∷ y ∷ p) = x ≡ 46 → y ≡ 46
 
-safe_text : (p : Bytes) → Safe p → body_line_of p ≡ Text
+safe_text : (p : Bytes) → Safe p → body_line_of p ≡ Ok Text
 unfolding body_line_of after_dot
 safe_text [] h = refl
 safe_text (x ∷ []) h = rw (ne_eqb x 46 h, body_line_of) refl
@@ -135,7 +135,7 @@ one_plain p x plain e = every_++ is_plain p (x ∷ []) plain (rw e refl)
 
 -- the text of a body, byte by byte
 text_read : (b p t rest : Bytes) (s n k : ℕ) → every is_plain p ≡ true → Safe p → Ends s n t (left p b) rest k
-unfolding each_byte with_dot is_empty every
+unfolding each_byte dot_as is_empty every
 text_read [] p t rest s n k plain safe = ends_as s n t p _ rest k (sym (append-nil p)) (ended s n t p rest k plain safe)
 text_read (x ∷ b) p t rest s n k plain safe =
     cases (is_empty p && eqb x 46)
@@ -149,12 +149,12 @@ text_read (x ∷ b) p t rest s n k plain safe =
     (λ f.
     let d : x ≡ 10 = eqb-true x 10 f in
     let safer : (is_empty p && eqb 10 46) ≡ false = rw d at e in
-    rw d (rw (safer, with_dot) (lined s n t p (each_byte with_dot true b) rest k plain safe (text_read b [] (t ++ (p ++ (10 ∷ []))) rest s n (suc k) refl tt))))
+    rw d (rw (safer, dot_as) (lined s n t p (each_byte with_dot true b) rest k plain safe (text_read b [] (t ++ (p ++ (10 ∷ []))) rest s n (suc k) refl tt))))
     (λ f.
     let i : is_empty (p ++ (x ∷ [])) ≡ false = not_empty p x in
     let r : Ends s n t ((p ++ (x ∷ [])) ++ each_byte with_dot (is_empty (p ++ (x ∷ []))) b) rest k = text_read b (p ++ (x ∷ [])) t rest s n k (one_plain p x plain f) (single p x e safe) in
     let r' : Ends s n t ((p ++ (x ∷ [])) ++ each_byte with_dot false b) rest k = rw i at r in
-    rw (e, with_dot) (rw f (ends_as s n t _ _ rest k (append_assoc p (x ∷ []) (each_byte with_dot false b)) r'))))
+    rw (e, dot_as) (rw f (ends_as s n t _ _ rest k (append_assoc p (x ∷ []) (each_byte with_dot false b)) r'))))
 
 -- the text of a body is read as that body
 pub record Body (b rest : Bytes) (s n k : ℕ) : Type 0 where

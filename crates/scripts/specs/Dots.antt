@@ -7,11 +7,15 @@ unfoldable pub each_byte : (f : Bool → ℕ → Bytes) → (starts : Bool) → 
 each_byte f s [] = []
 each_byte f s (x ∷ xs) = f s x ++ each_byte f (x == 10) xs
 
-unfoldable pub with_dot : (starts : Bool) → ℕ → Bytes
-with_dot s x = elim (s && x == 46) [ true ↦ 46 ∷ x ∷ [] | false ↦ x ∷ [] ]
+-- a byte, or `dot` in its place where it is a dot that starts a line
+unfoldable pub dot_as : (dot : Bytes) → (starts : Bool) → ℕ → Bytes
+dot_as dot s x = elim (s && x == 46) [ true ↦ dot | false ↦ x ∷ [] ]
 
-unfoldable pub without_dot : (starts : Bool) → ℕ → Bytes
-without_dot s x = elim (s && x == 46) [ true ↦ [] | false ↦ x ∷ [] ]
+abbrev pub with_dot : (starts : Bool) → ℕ → Bytes
+with_dot = dot_as (46 ∷ 46 ∷ [])
+
+abbrev pub without_dot : (starts : Bool) → ℕ → Bytes
+without_dot = dot_as []
 
 -- a body as a script has it, one dot more before each line that starts with one
 unfoldable pub dotted : Bytes → Bytes
@@ -27,5 +31,5 @@ without_last xs = take (length xs - 1) xs
 
 -- what a proof by computation unfolds
 unfoldable pub computes_dots : Unit {0}
-unfolding each_byte with_dot without_dot dotted undotted without_last
+unfolding each_byte dot_as dotted undotted without_last
 computes_dots = tt

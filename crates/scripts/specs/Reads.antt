@@ -1,5 +1,5 @@
 -- What reading a whole script answers.
-use Rattle.std.specs.Prelude.{◌≡◌, true, false, List, is_some, Ok, Err, vec_items, Result}
+use Rattle.std.specs.Prelude.{◌≡◌, true, false, List, is_some, Ok, Err, Result}
 use Rattle.format.specs.Bytes.{Bytes}
 use Rattle.format.specs.Revisions.{find}
 use Rattle.format.specs.Updates.{Update, with_change}
@@ -13,15 +13,15 @@ use Rattle.scripts.specs.Errors.{wrong_at}
 use Rattle.scripts.specs.Readers.{spelled_change}
 use Rattle.scripts.specs.Rows.{rows_of}
 use Rattle.scripts.specs.Scripts.{Item, between, read_script}
-use Rattle.scripts.specs.Walks.{said}
+use Rattle.scripts.specs.Walks.{said_at}
 
 -- what a script says from where a reader stands
 abbrev pub said_from : Reader → List Item
-said_from r = said between r.src.now r.place r.lines
+said_from r = said_at between r.at
 
 -- the update that a script in memory is
 abbrev pub update_of : Script → Update
-update_of s = rows_of (vec_items s.rows)
+update_of s = rows_of s.changes.entries
 
 -- want of memory, or just what is wrong in the script
 abbrev pub NotRead : Bytes → ReadError → Type 0

@@ -1,13 +1,13 @@
 -- What a script says, and the script of an update.
-use Rattle.std.specs.Prelude.{ℕ, suc, true, false, List, [], ◌∷◌, ◌++◌, is_some, Ok, Err, codes, Result}
+use Rattle.std.specs.Prelude.{ℕ, suc, true, false, List, [], ◌∷◌, ◌++◌, is_some, Some, None, Ok, Err, codes, Result}
 use Rattle.format.specs.Bytes.{Bytes}
 use Rattle.format.specs.Revisions.{find}
 use Rattle.format.specs.Updates.{Change, body, removed, Update, with_change}
 use Rattle.format.specs.Writing.{decimal}
-use Rattle.scripts.specs.declared.error.Mistake.TheVariants.{NumberAgain, SingleDot, NoEnd}
+use Rattle.scripts.specs.declared.error.Mistake.TheVariants.{NumberAgain, NoEnd}
 use Rattle.scripts.specs.declared.error.ScriptError.{ScriptError}
-use Rattle.scripts.specs.declared.line.BodyLine.TheVariants.{Text, End, Dot}
-use Rattle.scripts.specs.declared.line.Head.TheVariants.{Nothing, Remove, Put, Wrong}
+use Rattle.scripts.specs.declared.line.BodyLine.TheVariants.{Text, End}
+use Rattle.scripts.specs.declared.line.Head.TheVariants.{Remove, Put}
 use Rattle.scripts.specs.Dots.{dotted, undotted, without_last}
 use Rattle.scripts.specs.Errors.{wrong_at}
 use Rattle.scripts.specs.Lines.{lines_of, head_of, body_line_of}
@@ -27,17 +27,17 @@ unfoldable pub items_of : Where → (k : ℕ) → List Bytes → List Item
 items_of between k [] = []
 items_of between k (l ∷ ls) =
     elim (head_of l) [
-      | Nothing ↦ items_of between (suc k) ls
-      | Remove n ↦ change k n removed ∷ items_of between (suc k) ls
-      | Put n ↦ items_of (inside k n []) (suc k) ls
-      | Wrong m ↦ stop (wrong_at k m) ∷ []
+      | Ok None ↦ items_of between (suc k) ls
+      | Ok (Some (Remove n)) ↦ change k n removed ∷ items_of between (suc k) ls
+      | Ok (Some (Put n)) ↦ items_of (inside k n []) (suc k) ls
+      | Err m ↦ stop (wrong_at k m) ∷ []
     ]
 items_of (inside s n t) k [] = stop (wrong_at s NoEnd) ∷ []
 items_of (inside s n t) k (l ∷ ls) =
     elim (body_line_of l) [
-      | Text ↦ items_of (inside s n (t ++ (l ++ (10 ∷ [])))) (suc k) ls
-      | End ↦ change s n (body (undotted (without_last t))) ∷ items_of between (suc k) ls
-      | Dot ↦ stop (wrong_at k SingleDot) ∷ []
+      | Ok Text ↦ items_of (inside s n (t ++ (l ++ (10 ∷ [])))) (suc k) ls
+      | Ok End ↦ change s n (body (undotted (without_last t))) ∷ items_of between (suc k) ls
+      | Err m ↦ stop (wrong_at k m) ∷ []
     ]
 
 -- what a script says from its first line on

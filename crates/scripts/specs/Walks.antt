@@ -1,15 +1,13 @@
--- What is found from a place of a script on.
-use Rattle.std.specs.Prelude.{◌≡◌, ℕ, suc, ◌+◌, ◌-◌, ◌^◌, ◌<◌, ◌≤◌, ◌⊎◌, List, [], ◌∷◌, ◌++◌, length, take, drop, Ok, Err, Result}
+-- What is read from a place of a script on.
+use Rattle.std.specs.Prelude.{◌≡◌, ℕ, suc, ◌+◌, ◌-◌, ◌^◌, ◌<◌, ◌≤◌, ◌⊎◌, List, [], ◌∷◌, ◌++◌, length, take, drop, Some, None, Ok, Err, Option, Result}
+use Rattle.std.specs.Borrow.{Bor}
 use Rattle.format.specs.Bytes.{Bytes}
 use Rattle.format.specs.Updates.{body, removed}
+use Rattle.scripts.specs.declared.cursor.Cursor.{Cursor}
 use Rattle.scripts.specs.declared.error.ScriptError.{ScriptError}
-use Rattle.scripts.specs.declared.line.BodyEnd.{BodyEnd}
 use Rattle.scripts.specs.declared.line.Head.{Head}
-use Rattle.scripts.specs.declared.line.Head.TheVariants.{Nothing, Remove, Put, Wrong}
-use Rattle.scripts.specs.declared.line.HeadLine.{HeadLine}
-use Rattle.scripts.specs.declared.line.Line.{Line}
+use Rattle.scripts.specs.declared.line.Head.TheVariants.{Remove, Put}
 use Rattle.scripts.specs.Dots.{undotted}
-use Rattle.scripts.specs.Errors.{wrong_at}
 use Rattle.scripts.specs.Lines.{lines_of}
 use Rattle.scripts.specs.Scripts.{Item, change, stop, Where, between, inside, items_of}
 
@@ -17,51 +15,42 @@ use Rattle.scripts.specs.Scripts.{Item, change, stop, Where, between, inside, it
 abbrev pub part : Bytes → (from to : ℕ) → Bytes
 part src from to = take (to - from) (drop from src)
 
--- the line that starts at a place
-pub record LineAt (src : Bytes) (from : ℕ) (line : Line) : Type 0 where
-  pub starts : from ≤ line.end
-  pub moves : from < line.next
-  pub within : line.end ≤ line.next
-  pub inside : line.next ≤ length src
-  pub is : lines_of (drop from src) ≡ part src from line.end ∷ lines_of (drop line.next src)
+-- the line that starts at a place, and the place of the next
+pub record LineAt (src : Bytes) (from : ℕ) (line : Bytes) (next : ℕ) : Type 0 where
+  pub moves : from < next
+  pub inside : next ≤ length src
+  pub is : lines_of (drop from src) ≡ line ∷ lines_of (drop next src)
   -- it ends in LF, or the script ends
-  pub text : (part src from line.next ≡ part src from line.end ++ (10 ∷ [])) ⊎ (length src ≤ line.next)
+  pub text : (part src from next ≡ line ++ (10 ∷ [])) ⊎ (length src ≤ next)
 
 -- what a script says from a place on, behind so many lines
 abbrev pub said : Where → Bytes → (place lines : ℕ) → List Item
 said w src place lines = items_of w (suc lines) (lines_of (drop place src))
 
--- what it says from the k-th line on, by what that line says
-abbrev pub head_said : Bytes → (place k : ℕ) → Head → List Item
-head_said src place k Nothing = []
-head_said src place k (Remove n) = change k n removed ∷ said between src place k
-head_said src place k (Put n) = said (inside k n []) src place k
-head_said src place k (Wrong m) = stop (wrong_at k m) ∷ []
+-- what it says from a cursor on
+abbrev pub said_at : Where → Cursor → List Item
+said_at w c = said w c.src.now c.place c.lines
 
--- a number of at most ten digits
-abbrev pub SmallHead : Head → Type 0
-SmallHead Nothing = Unit {0}
-SmallHead (Remove n) = n < 10 ^ 10
-SmallHead (Put n) = n < 10 ^ 10
-SmallHead (Wrong m) = Unit {0}
+-- a line was read
+pub record LineRead (was : Cursor) (line : Bytes) (is : Cursor) : Type 0 where
+  pub same : is.src.now ≡ was.src.now
+  pub counted : is.lines ≡ was.lines + 1
+  pub at : LineAt was.src.now was.place line is.place
 
--- the next line that says something
-pub record HeadFound (src : Bytes) (place lines : ℕ) (h : HeadLine) : Type 0 where
-  pub is : said between src place lines ≡ head_said src h.place h.lines h.head
-  pub small : SmallHead h.head
-  pub within : h.place ≤ length src
-  pub counted : h.lines ≤ h.place
+-- the next line, if there is one
+abbrev pub NextLine : Cursor → Option (Bor Bytes) → Cursor → Type 0
+NextLine was None is = length was.src.now ≤ was.place
+NextLine was (Some line) is = LineRead was line.now is
 
--- what a script says from a body on that starts at a place, by where its end is
-abbrev pub body_said : Bytes → (place start number : ℕ) → Result BodyEnd ScriptError → List Item
-body_said src place s n (Ok e) = change s n (body (undotted (take e.length (drop place src)))) ∷ said between src e.place e.lines
-body_said src place s n (Err x) = stop x ∷ []
+-- the next line that says something, if there is one, or what is wrong in it
+abbrev pub HeadRead : Cursor → Result (Option Head) ScriptError → Cursor → Type 0
+HeadRead was (Ok None) is = said_at between was ≡ []
+HeadRead was (Ok (Some (Remove n))) is = (said_at between was ≡ change is.lines n removed ∷ said_at between is) × (n < 10 ^ 10)
+HeadRead was (Ok (Some (Put n))) is = (said_at between was ≡ said_at (inside is.lines n []) is) × (n < 10 ^ 10)
+HeadRead was (Err e) is = said_at between was ≡ stop e ∷ []
 
-abbrev pub EndsWithin : Bytes → (place : ℕ) → Result BodyEnd ScriptError → Type 0
-EndsWithin src place (Ok e) = (place + e.length ≤ length src) × (e.place ≤ length src) × (e.lines ≤ e.place)
-EndsWithin src place (Err x) = Unit {0}
-
--- the end of the body that starts at a place, put by the line `start`
-pub record BodyFound (src : Bytes) (place start : ℕ) (r : Result BodyEnd ScriptError) : Type 0 where
-  pub is : (n : ℕ) → said (inside start n []) src place start ≡ body_said src place start n r
-  pub within : EndsWithin src place r
+-- the text of the body that the line before put, whatever its number, or what is wrong in it
+abbrev pub BodyRead : Cursor → Result (Bor Bytes) ScriptError → Cursor → Type 0
+BodyRead was (Ok text) is =
+    (n : ℕ) → said_at (inside was.lines n []) was ≡ change was.lines n (body (undotted text.now)) ∷ said_at between is
+BodyRead was (Err e) is = (n : ℕ) → said_at (inside was.lines n []) was ≡ stop e ∷ []

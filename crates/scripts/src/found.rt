@@ -1,6 +1,6 @@
 // A change as a script has it.
 
-// What becomes of the number.
+// What becomes of the number. A removal is a change of its own, and no body that is lacking.
 #[derive(Clone, Copy)]
 pub enum Spelled<'a> {
     Removed,

@@ -2,7 +2,7 @@
 ghost use Rattle.std.specs.Prelude.{◌≡◌, ℕ, ◌<◌, ◌≤◌, length, codes, ◌≢◌, slice_index};
 ghost use Rattle.std.specs.Option.{option_map};
 ghost use Rattle.format.specs.Frames.{behind};
-ghost use Rattle.scripts.specs.Lines.{body_line_of, head_of, number_of, put_of, remove_of};
+ghost use Rattle.scripts.specs.Lines.{body_line_of, head_of, number_of, put_of};
 
 use crate::error::Mistake;
 use crate::line::{BodyLine, Head};
@@ -14,22 +14,18 @@ pub fn line_length(bytes: &[u8]) -> usize
     ensures before { (k : ℕ) → k < result → slice_index bytes.now k ≢ 10 }
     ensures found { result < length bytes.now → slice_index bytes.now result ≡ 10 }
 {
-    for (i, b) in bytes.iter().enumerate() {
-        if *b == b'\n' {
-            return i;
-        }
-    }
-    bytes.len()
+    bytes
+        .iter()
+        .position(|b| *b == b'\n')
+        .unwrap_or(bytes.len())
 }
 
 // The number that a text of one to ten digits spells.
 fn number(text: &[u8]) -> Option<u64>
     ensures { result ≡ number_of text.now }
 {
-    match digits(text, 0) {
-        Ok((n, end)) => { if end == text.len() { Some(n) } else { None } }
-        Err(_) => None,
-    }
+    let (n, end) = digits(text, 0).ok()?;
+    if end == text.len() { Some(n) } else { None }
 }
 
 // What follows a word, where the line begins with it.
@@ -39,61 +35,42 @@ fn after<'a>(line: &'a [u8], word: &[u8]) -> Option<&'a [u8]>
     line.strip_prefix(word)
 }
 
-// What a line says that begins with `remove `.
-fn remove_head(line: &[u8]) -> Head
-    ensures { result ≡ remove_of (behind (codes "remove ") line.now) }
-{
-    match after(line, b"remove ") {
-        Some(text) => match number(text) {
-            Some(n) => Head::Remove(n),
-            None => Head::Wrong(Mistake::BadNumber),
-        },
-        None => Head::Wrong(Mistake::NoChange),
-    }
-}
-
 // What a line says that begins with `put ` or `remove `.
-fn change_head(line: &[u8]) -> Head
+fn change_head(line: &[u8]) -> Result<Head, Mistake>
     ensures { result ≡ put_of line.now (behind (codes "put ") line.now) }
 {
-    match after(line, b"put ") {
-        Some(text) => match number(text) {
-            Some(n) => Head::Put(n),
-            None => Head::Wrong(Mistake::BadNumber),
-        },
-        None => remove_head(line),
+    if let Some(text) = after(line, b"put ") {
+        number(text).map(Head::Put).ok_or(Mistake::BadNumber)
+    } else if let Some(text) = after(line, b"remove ") {
+        number(text).map(Head::Remove).ok_or(Mistake::BadNumber)
+    } else {
+        Err(Mistake::NoChange)
     }
 }
 
-// What a line between changes says.
-pub fn head(line: &[u8]) -> Head
+// What a line between changes says: nothing, where it is empty or a comment.
+// By tests, since behind a pattern of the first byte the proof does not know what that byte is not.
+pub fn head(line: &[u8]) -> Result<Option<Head>, Mistake>
     ensures { result ≡ head_of line.now }
 {
     if line.len() == 0 {
-        return Head::Nothing;
+        return Ok(None);
     }
     if line[0] == b'#' {
-        return Head::Nothing;
+        return Ok(None);
     }
-    change_head(line)
+    change_head(line).map(Some)
 }
 
 // What a line of a body is.
-pub fn body_line(line: &[u8]) -> BodyLine
+#[tactic(auto, using(crate::proofs::Words::dots_empty, crate::proofs::Words::dots_none, crate::proofs::Words::dots_end, crate::proofs::Words::dots_two, crate::proofs::Words::dots_single))]
+pub fn body_line(line: &[u8]) -> Result<BodyLine, Mistake>
     ensures { result ≡ body_line_of line.now }
 {
-    if line.len() == 0 {
-        return BodyLine::Text;
-    }
-    if line[0] != b'.' {
-        return BodyLine::Text;
-    }
-    if line.len() == 1 {
-        return BodyLine::End;
-    }
-    if line[1] == b'.' {
-        BodyLine::Text
-    } else {
-        BodyLine::Dot
+    match line {
+        [b'.'] => Ok(BodyLine::End),
+        [b'.', b'.', ..] => Ok(BodyLine::Text),
+        [b'.', ..] => Err(Mistake::SingleDot),
+        _ => Ok(BodyLine::Text),
     }
 }

@@ -5,12 +5,12 @@ ghost use Rattle.scripts.specs.Reads.{update_of};
 ghost use Rattle.scripts.specs.Rows.{change_of};
 ghost use Rattle.scripts.specs.Scripts.{change_bytes, print_script, read_script};
 
+use crate::change::Change;
 use crate::dots::add_text;
-use crate::row::{Change, Row};
 use crate::script::Script;
 use std::alloc::{AllocError, Global};
 
-// Appends a number in decimal.
+// Appends a number in decimal. `write!` into a Vec fails by an `io::Error`, and all that can fail here is to get memory.
 fn add_decimal(out: &mut Vec<u8>, n: u64) -> Result<(), AllocError>
     requires { n < 10 ^ 10 }
     ensures { OnOk result (out.new.items ≡ out.old.items ++ decimal n) }
@@ -36,17 +36,17 @@ fn add_head(out: &mut Vec<u8>, word: &[u8], n: u64) -> Result<(), AllocError>
 }
 
 // Appends a change.
-fn add_row(out: &mut Vec<u8>, row: &Row) -> Result<(), AllocError>
-    requires { row.now.number < 10 ^ 10 }
-    ensures { OnOk result (out.new.items ≡ out.old.items ++ change_bytes row.now.number (change_of row.now.change)) }
+fn add_change(out: &mut Vec<u8>, number: u64, change: &Change) -> Result<(), AllocError>
+    requires { number < 10 ^ 10 }
+    ensures { OnOk result (out.new.items ≡ out.old.items ++ change_bytes number (change_of change.now)) }
 {
-    match &row.change {
+    match change {
         Change::Removed => {
-            add_head(out, b"remove ", row.number)?;
+            add_head(out, b"remove ", number)?;
             Ok(())
         }
         Change::Body(bytes) => {
-            add_head(out, b"put ", row.number)?;
+            add_head(out, b"put ", number)?;
             add_text(out, bytes.as_slice())?;
             out.extend_from_slice(b"\n.\n")?;
             Ok(())
@@ -60,8 +60,8 @@ pub fn print(heap: Global, script: &Script) -> Result<Vec<u8>, AllocError>
     ensures back { IfOk result (λ v. read_script v.items ≡ Ok (update_of script.now)) }
 {
     let mut out = Vec::new(heap);
-    for i in 0..script.rows.len() {
-        add_row(&mut out, &script.rows[i])?;
+    for (number, change) in &script.changes {
+        add_change(&mut out, *number, change)?;
     }
     Ok(out)
 }

@@ -1,65 +1,57 @@
 // Reading a script change by change. No memory is taken.
-ghost use Rattle.std.specs.Prelude.{◌≡◌, ◌≤◌, length};
+ghost use Rattle.std.specs.Prelude.{◌≡◌};
 ghost use Rattle.scripts.specs.Readers.{Gave, SmallNumber};
 ghost use Rattle.scripts.specs.Scripts.{between, said_by};
-ghost use Rattle.scripts.specs.Walks.{said};
+ghost use Rattle.scripts.specs.Walks.{said_at};
 
+use crate::cursor::Cursor;
 use crate::error::ScriptError;
 use crate::found::{Found, Spelled};
-use crate::line::{Head, HeadLine};
-use crate::walk::{body_end, next_head};
+use crate::line::Head;
 
-// The script, the place from which the next change is read, and how many lines stand before it.
+// From where the next change is read.
 #[derive(Drop)]
 pub struct Reader<'a> {
-    src: &'a [u8],
-    place: usize,
-    lines: usize,
-    ghost within: { place ≤ length src.now },
-    ghost counted: { lines ≤ place },
+    at: Cursor<'a>,
 }
 
 impl<'a> Reader<'a> {
     pub fn new(src: &'a [u8]) -> Reader<'a>
-        ensures { said between result.src.now result.place result.lines ≡ said_by src.now }
+        ensures { said_at between result.at ≡ said_by src.now }
     {
         Reader {
-            src,
-            place: 0,
-            lines: 0,
+            at: Cursor::new(src),
         }
     }
 
     // The next change, if there is one.
     pub fn next(&mut self) -> Result<Option<Found<'a>>, ScriptError>
-        ensures gave { Gave (said between self.old.src.now self.old.place self.old.lines) result (said between self.new.src.now self.new.place self.new.lines) }
+        ensures gave { Gave (said_at between self.old.at) result (said_at between self.new.at) }
         ensures small { SmallNumber result }
     {
-        let src = self.src;
-        let HeadLine { head, place, lines } = next_head(src, self.place, self.lines);
+        let mut ahead = self.at;
+        let Some(head) = ahead.head()? else {
+            return Ok(None);
+        };
+        let line = ahead.lines;
         match head {
-            Head::Nothing => Ok(None),
             Head::Remove(number) => {
-                self.place = place;
-                self.lines = lines;
+                self.at = ahead;
                 Ok(Some(Found {
-                    line: lines,
+                    line,
                     number,
                     change: Spelled::Removed,
                 }))
             }
             Head::Put(number) => {
-                let end = body_end(src, place, lines)?;
-                let length = end.length;
-                self.place = end.place;
-                self.lines = end.lines;
+                let text = ahead.body()?;
+                self.at = ahead;
                 Ok(Some(Found {
-                    line: lines,
+                    line,
                     number,
-                    change: Spelled::Body(&src[place..place + length]),
+                    change: Spelled::Body(text),
                 }))
             }
-            Head::Wrong(kind) => Err(ScriptError { line: lines, kind }),
         }
     }
 }

@@ -1,33 +1,17 @@
 // Reading a whole script into memory of its own.
 ghost use Rattle.std.specs.Prelude.{◌≡◌, IfOk};
-ghost use Rattle.format.specs.Acceptable.{Ascends};
 ghost use Rattle.scripts.specs.Readers.{spelled_change};
 ghost use Rattle.scripts.specs.Reads.{Added, ReadAs};
-ghost use Rattle.scripts.specs.Rows.{change_of, place_from, rows_of};
+ghost use Rattle.scripts.specs.Rows.{change_of, rows_of};
 
+use crate::change::Change;
 use crate::dots::add_body;
 use crate::error::{Mistake, ReadError, ScriptError};
 use crate::found::{Found, Spelled};
 use crate::reader::Reader;
-use crate::row::{Change, Row};
 use crate::script::Script;
 use std::alloc::{AllocError, Global};
-
-// Where a row of a number goes, unless one has it.
-fn place_for(rows: &Vec<Row>, number: u64) -> Option<usize>
-    ensures { result ≡ place_from 0 number (rows_of rows.now.items) }
-{
-    for i in 0..rows.len() {
-        let here = rows[i].number;
-        if here == number {
-            return None;
-        }
-        if number < here {
-            return Some(i);
-        }
-    }
-    Some(rows.len())
-}
+use std::collections::BTreeMap;
 
 // The change in memory of its own.
 fn owned(heap: Global, spelled: Spelled<'_>) -> Result<Change, AllocError>
@@ -44,19 +28,17 @@ fn owned(heap: Global, spelled: Spelled<'_>) -> Result<Change, AllocError>
 }
 
 // Adds a change where its number has none yet.
-fn add(heap: Global, rows: &mut Vec<Row>, found: Found<'_>) -> Result<(), ReadError>
-    requires { Ascends 0 (rows_of rows.old.items) }
-    ensures { Added (rows_of rows.old.items) found.entry result (rows_of rows.new.items) }
+fn add(heap: Global, changes: &mut BTreeMap<u64, Change>, found: Found<'_>) -> Result<(), ReadError>
+    ensures { Added (rows_of changes.old.entries) found.entry result (rows_of changes.new.entries) }
 {
-    let number = found.number;
-    let Some(place) = place_for(rows, number) else {
+    if changes.contains_key(&found.number) {
         return Err(ReadError::Wrong(ScriptError {
             line: found.line,
             kind: Mistake::NumberAgain,
         }));
-    };
+    }
     let change = owned(heap, found.change)?;
-    rows.insert(place, Row { number, change })?;
+    changes.insert(found.number, change)?;
     Ok(())
 }
 
@@ -65,9 +47,9 @@ pub fn read(heap: Global, src: &[u8]) -> Result<Script, ReadError>
     ensures { ReadAs src.now result }
 {
     let mut reader = Reader::new(src);
-    let mut rows = Vec::new(heap);
+    let mut changes = BTreeMap::new(heap);
     while let Some(found) = reader.next()? {
-        add(heap, &mut rows, found)?;
+        add(heap, &mut changes, found)?;
     }
-    Ok(Script { rows })
+    Ok(Script { changes })
 }

@@ -2,11 +2,12 @@
 ghost use Rattle.std.specs.Prelude.{◌≡◌, true};
 ghost use Rattle.scripts.specs.Rows.{in_order, rows_of};
 
-use crate::row::Row;
+use crate::change::Change;
+use std::collections::BTreeMap;
 
-// The changes by ascending numbers, which have at most ten digits.
+// The changes by their numbers, which have at most ten digits.
 #[derive(Drop)]
 pub struct Script {
-    pub rows: Vec<Row>,
-    ghost ordered: { in_order 0 (rows_of rows.items) ≡ true },
+    pub changes: BTreeMap<u64, Change>,
+    ghost ordered: { in_order 0 (rows_of changes.entries) ≡ true },
 }

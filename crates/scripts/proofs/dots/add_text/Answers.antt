@@ -1,21 +1,6 @@
-use Rattle.std.proofs.Common.{true, ◌++◌, vec_items, sym, refl, ap, ◌∙◌, arith}
-use Rattle.std.proofs.lemmas.List.{take_all}
-use Rattle.scripts.specs.Dots.{with_dot, dotted}
-use Rattle.scripts.proofs.Dotting.{each_none, each_more, starts_more}
+use Rattle.scripts.specs.Dots.{dotted}
 use Rattle.scripts.proofs.dots.add_text.Goals as goal
-
-pub loop-b-init : goal.loop-b-init
-loop-b-init c = (each_none with_dot true _, refl)
-
-pub loop-b-preserved : goal.loop-b-preserved
-loop-b-preserved c =
-    let pushed = c.in_ok-push_dotted.ensures in
-    let before = c.loop-b.invariant.0 in
-    let more = each_more with_dot (vec_items c.args.out.now) c.args.bytes.now c.loop-b.b-index c.loop-b.starts (omega arith) c.loop-b.invariant.1 in
-    (cc, sym (starts_more c.args.bytes.now c.loop-b.b-index (omega arith)))
 
 pub returns : goal.returns
 unfolding dotted
-returns c =
-    let all = take_all c.loop-b.b-index c.args.bytes.now (omega arith) in
-    c.loop-b.invariant.0 ∙ ap (λ t. vec_items c.args.out.now ++ dotted t) all
+returns c = c.add_bytes.ensures

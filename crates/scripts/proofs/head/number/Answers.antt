@@ -1,12 +1,17 @@
 use Rattle.std.proofs.Common.{sym, arith}
-use Rattle.scripts.proofs.Words.{number_whole, number_more, number_lacks}
+use Rattle.scripts.proofs.Words.{number_missing, number_more, number_there, number_whole}
 use Rattle.scripts.proofs.head.number.Goals as goal
 
+pub returns-in_err-n : goal.returns-in_err-n
+returns-in_err-n c =
+    rw c.from_residual.ensures (sym (number_missing c.args.text.now c.digits.result c.ok.result c.digits.ensures.is c.ok.ensures.value c.in_err-n.was))
+
 pub returns-then-end-text : goal.returns-then-end-text
-returns-then-end-text c = sym (number_whole _ _ _ c.in-Ok.end (c.in-Ok.ensures.is.is 0) (omega arith))
+returns-then-end-text c =
+    let there = number_there c.args.text.now c.digits.result c.ok.result c.in_ok-n.n c.in_ok-n.end c.digits.ensures.is c.ok.ensures.value c.in_ok-n.was in
+    sym (number_whole _ _ _ c.in_ok-n.end there.0 (omega arith))
 
 pub returns-else-end-text : goal.returns-else-end-text
-returns-else-end-text c = sym (number_more _ _ _ c.in-Ok.end (c.in-Ok.ensures.is.is 0) (omega (arith, c.in-Ok.ensures.is.within.1)))
-
-pub returns-in-Err : goal.returns-in-Err
-returns-in-Err c = sym (number_lacks _ _ (c.in-Err.ensures.is.is 0))
+returns-else-end-text c =
+    let there = number_there c.args.text.now c.digits.result c.ok.result c.in_ok-n.n c.in_ok-n.end c.digits.ensures.is c.ok.ensures.value c.in_ok-n.was in
+    sym (number_more _ _ _ c.in_ok-n.end there.0 (omega (arith, there.1)))

@@ -1,9 +1,0 @@
-use Rattle.std.proofs.Common.{◌≡◌, true, ◌++◌, take, vec_items}
-use Rattle.scripts.specs.Dots.{each_byte, without_dot}
-use Rattle.scripts.proofs.Dotting.{starts_after}
-use Rattle.scripts.proofs.dots.add_body.Given as goal
-
-abbrev pub invariant-loop-b : goal.invariant-loop-b
-invariant-loop-b l =
-    (vec_items l.out ≡ vec_items l.initial.out ++ each_byte without_dot true (take l.b-index l.text))
-    × (l.starts ≡ starts_after true (take l.b-index l.text))
