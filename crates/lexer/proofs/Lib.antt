@@ -7,6 +7,7 @@ pub mod Names
 pub mod Numerals
 pub mod Places
 pub mod Runs
+pub mod RunsByStep
 pub mod Sames
 pub mod Spaces
 pub mod Starts
