@@ -39,6 +39,7 @@ impl<'a> Cursor<'a> {
         ensures { HeadRead self.old result self.new }
     {
         while let Some(line) = self.line() {
+            // no `map_err`: what its closure answers stays unopened in the proof, and the equation of the error does not close
             match head(line) {
                 Ok(None) => {}
                 Ok(Some(head)) => return Ok(Some(head)),
@@ -60,6 +61,7 @@ impl<'a> Cursor<'a> {
         let start = *self;
         let mut end = start.place;
         while let Some(line) = self.line() {
+            // no `map_err`, as in `head`
             match body_line(line) {
                 Ok(BodyLine::Text) => end = self.place,
                 Ok(BodyLine::End) => {
