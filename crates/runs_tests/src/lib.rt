@@ -18,7 +18,7 @@ pub fn remove_for_now<S: Store>(book: &mut Book<S>, slip: Slip, number: usize) -
 
 #[cfg(test)]
 mod tests {
-    use book::book::Memory;
+    use book::book::{Book, Memory};
     use book::call::Call;
     use faults::fault::Fault;
     use faults::reason::Reason;
@@ -179,7 +179,25 @@ mod tests {
         Ok(())
     }
 
-    // How many revisions there are where revision k of the worked file with one update was drawn out and opened.
+    // How many revisions there are where revision k is drawn out and opened.
+    fn count_alone(
+        book: &Book<Flat>,
+        k: usize,
+        out: Flat,
+        memory: Memory,
+    ) -> Result<Result<usize, Fault>, Fail> {
+        match open_alone(book, k, out, memory).map_err(cause) {
+            Ok(alone) => {
+                let count = alone.revisions();
+                let (_out, _more) = alone.into_parts();
+                Ok(count)
+            }
+            Err(ExtractError::Refused(fault)) => Ok(Err(fault)),
+            Err(ExtractError::NotEmpty) => Err("not empty".into()),
+        }
+    }
+
+    // The same of the worked file with one update.
     fn revisions_alone(heap: Global, k: usize) -> Result<Result<usize, Fault>, Fail> {
         let store = worked(heap, 400)?;
         let memory = Memory::new(heap)?;
@@ -191,17 +209,9 @@ mod tests {
             slip,
             answers: _,
         } = work(heap, store, memory, &calls).map_err(cause)?;
-        let drawn = open_alone(&book, k, out, more);
+        let drawn = count_alone(&book, k, out, more);
         let (_store, _memory) = close(book, slip);
-        match drawn.map_err(cause) {
-            Ok(alone) => {
-                let count = alone.revisions();
-                let (_out, _more) = alone.into_parts();
-                Ok(count)
-            }
-            Err(ExtractError::Refused(fault)) => Ok(Err(fault)),
-            Err(ExtractError::NotEmpty) => Err("not empty".into()),
-        }
+        drawn
     }
 
     #[test]
