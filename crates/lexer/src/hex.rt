@@ -1,5 +1,5 @@
 // Hexadecimal strings.
-ghost use Rattle.std.specs.Prelude.{◌≡◌, ◌<◌, ◌≤◌, ◌||◌, not, length, drop, position, MatchResult};
+ghost use Rattle.std.specs.Prelude.{◌≡◌, ◌+◌, ◌<◌, ◌≤◌, ◌||◌, not, length, drop, position, MatchResult};
 ghost use Rattle.format.specs.Bytes.{is_white};
 ghost use Rattle.format.specs.Strings.{is_hex, hex_string};
 ghost use Rattle.format.specs.Tokens.{bad_hex};
@@ -8,6 +8,7 @@ ghost use Rattle.lexer.specs.Flaws.{FlawWithin};
 
 use crate::bytes::{is_hex, is_white};
 use crate::flaw::Flaw;
+use crate::head::Head;
 
 // The place of the first byte that cannot stand in a hex string.
 fn first_outside(bytes: &[u8]) -> Option<usize>
@@ -16,19 +17,22 @@ fn first_outside(bytes: &[u8]) -> Option<usize>
     bytes.iter().position(|b| !(is_hex(*b) || is_white(*b)))
 }
 
-// The hex string from `from`, behind its opening mark, on: the place behind its closing mark.
-pub fn hex_end(src: &[u8], from: usize) -> Result<usize, Flaw>
-    requires { from ≤ length src.now }
-    ensures is { StringRead bad_hex src.now (hex_string from (drop from src.now)) result }
-    ensures within { MatchResult result (λ q. (from < q) × (q ≤ length src.now)) (FlawWithin src.now) }
-{
-    let rest = &src[from..];
-    let at = from + first_outside(rest).unwrap_or(rest.len());
-    if at == src.len() {
-        return Err(Flaw::CutShort(src.len()));
+impl Head<'_> {
+    // The hex string whose opening mark is the first byte: the place behind its closing mark.
+    pub fn hex_end(self) -> Result<usize, Flaw>
+        ensures is { StringRead bad_hex self.entry.src.now (hex_string (self.entry.at + 1) (drop (self.entry.at + 1) self.entry.src.now)) result }
+        ensures within { MatchResult result (λ q. (self.entry.at + 1 < q) × (q ≤ length self.entry.src.now)) (FlawWithin self.entry.src.now) }
+    {
+        let src = self.src;
+        let from = self.at + 1;
+        let rest = &src[from..];
+        let at = from + first_outside(rest).unwrap_or(rest.len());
+        if at == src.len() {
+            return Err(Flaw::CutShort(src.len()));
+        }
+        if src[at] != b'>' {
+            return Err(Flaw::BadHex(at));
+        }
+        Ok(at + 1)
     }
-    if src[at] != b'>' {
-        return Err(Flaw::BadHex(at));
-    }
-    Ok(at + 1)
 }

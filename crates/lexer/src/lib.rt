@@ -3,6 +3,7 @@
 
 pub mod bytes;
 mod flaw;
+mod head;
 mod hex;
 pub mod line;
 mod literal;
@@ -10,5 +11,5 @@ pub mod name;
 mod number;
 pub mod reader;
 mod reads;
-pub mod space;
+mod space;
 pub mod token;

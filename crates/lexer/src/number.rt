@@ -33,7 +33,9 @@ fn more_size(size: u32, b: u8) -> u32
     ensures is { result ≡ capped (size * 10 + (b - 48)) }
     ensures high { result ≤ 2147483649 }
 {
-    (size as u64 * 10 + (b - b'0') as u64).min(2147483649) as u32
+    size.saturating_mul(10)
+        .saturating_add(u32::from(b - b'0'))
+        .min(2147483649)
 }
 
 // The size of the integer whose digits these are, at most 2147483649 for one past either bound; none for a real. They start at the place `from`.
@@ -69,7 +71,7 @@ fn integer(minus: bool, size: u32) -> Result<i32, Flaw>
         (λ z. (z ≡ (if minus then neg_ℤ (pos size) else pos size)) × (size ≤ (if minus then 2147483648 else 2147483647)))
         (λ e. (e ≡ Flaw.OutOfRange) × ((if minus then 2147483648 else 2147483647) < size)) }
 {
-    let value = size as i64;
+    let value = i64::from(size);
     let signed = if minus { -value } else { value };
     i32::try_from(signed).map_err(|_| Flaw::OutOfRange)
 }

@@ -1,11 +1,11 @@
 // Tokens.
-ghost use Rattle.std.specs.Prelude.{◌≡◌, ◌≤◌, length};
 ghost use Rattle.lexer.specs.Views.{Tells, PlacedIn};
 
 use crate::flaw::flaw_fault;
-use crate::reads::start_at;
-use crate::space::skip_space;
+use crate::head::Head;
+use crate::reader::Lexer;
 use faults::fault::Fault;
+
 // A token; its bytes stay where they are.
 #[derive(Clone, Copy, Debug)]
 pub enum Token<'a> {
@@ -39,24 +39,26 @@ pub struct Found<'a> {
     pub to: usize,
 }
 
-// The token that comes next from `from` on, behind white space and comments.
-pub fn token_at<'a>(src: &'a [u8], from: usize) -> Result<Found<'a>, Fault>
-    requires { from ≤ length src.now }
-    ensures is { Tells src.now from result }
-    ensures placed { PlacedIn src.now from result }
-{
-    let at = skip_space(src, from);
-    if at == src.len() {
-        return Ok(Found {
-            token: Token::End,
+impl<'a> Lexer<'a> {
+    // The token that comes next, behind white space and comments.
+    pub fn token(self) -> Result<Found<'a>, Fault>
+        ensures is { Tells self.entry.src.now self.entry.place result }
+        ensures placed { PlacedIn self.entry.src.now self.entry.place result }
+    {
+        let at = self.skip_space();
+        if at == self.src.len() {
+            return Ok(Found {
+                token: Token::End,
+                from: at,
+                to: at,
+            });
+        }
+        let head = Head { src: self.src, at };
+        let (token, to) = head.start().map_err(|flaw| flaw_fault(at, flaw))?;
+        Ok(Found {
+            token,
             from: at,
-            to: at,
-        });
+            to,
+        })
     }
-    let (token, to) = start_at(src, at).map_err(|flaw| flaw_fault(at, flaw))?;
-    Ok(Found {
-        token,
-        from: at,
-        to,
-    })
 }

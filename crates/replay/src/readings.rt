@@ -6,7 +6,7 @@ use crate::command::Reading;
 use crate::sort::Sort;
 use crate::trouble::Trouble;
 use faults::fault::Fault;
-use lexer::token::token_at;
+use lexer::reader::Lexer;
 use objects::body::check_body;
 use objects::frame::read_frame;
 use objects::object::object_at;
@@ -33,7 +33,7 @@ fn tokens(heap: Global, src: &[u8]) -> Answer
     let mut values = Vec::new(heap);
     let mut place = 0;
     loop {
-        let found = match token_at(src, place) {
+        let found = match Lexer::at(src, place).token() {
             Ok(found) => found,
             Err(fault) => return Err(Setback::Fault(fault)),
         };
