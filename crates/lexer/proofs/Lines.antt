@@ -1,7 +1,9 @@
 -- Ends of line, at a place of the whole bytes.
-use Rattle.std.proofs.Common.{◌≡◌, ℕ, suc, ◌+◌, ◌<◌, ◌≤◌, true, false, eqb, [], ◌∷◌, length, get_or, drop, sym, refl, ◌∙◌, add-one, arith}
-use Rattle.std.proofs.lemmas.List.{at_drop_all}
-use Rattle.std.proofs.lemmas.Bool.{eq-eqb, ne_eqb}
+use Rattle.std.proofs.Common.{◌≡◌, ℕ, suc, ◌+◌, ◌<◌, ◌≤◌, true, false, eqb, [], ◌∷◌, length, get_or, drop, sym, refl, ap, ◌∙◌, ⊎_elim, add-one, arith, get_or-drop}
+use Rattle.std.specs.List.{between}
+use Rattle.std.proofs.lemmas.List.{at_drop_all, get_or_past}
+use Rattle.std.proofs.lemmas.Bool.{cases_lt, eq-eqb, ne_eqb}
+use Rattle.std.proofs.lemmas.Slice.{between_to_end}
 use Rattle.format.specs.Bytes.{Bytes}
 use Rattle.format.specs.Space.{no_bytes, no_eol, eol_to, after_cr, eol_at}
 use Rattle.lexer.proofs.Places.{at_place}
@@ -34,6 +36,21 @@ no_line p = refl
 cr_last : (p : ℕ) → after_cr p [] ≡ eol_to p []
 unfolding after_cr
 cr_last p = refl
+
+-- a byte of the bytes from p on
+module _ (src : Bytes) (p q i x : ℕ) (place : q ≡ p + i) where
+  there : get_or (between p (length src) src) i 0 ≡ get_or src q 0
+  there = ap (λ xs. get_or xs i 0) (between_to_end src p (length src) (omega arith)) ∙ rw place (get_or-drop p src i 0)
+
+  pub byte_there : get_or (between p (length src) src) i 0 ≡ x → get_or src q 0 ≡ x
+  byte_there e = sym there ∙ e
+
+  pub no_byte_there : (get_or (between p (length src) src) i 0 ≡ x → ⊥) → get_or src q 0 ≡ x → ⊥
+  no_byte_there n e = n (there ∙ e)
+
+-- where a byte is not 0, one stands
+pub stands : (src : Bytes) (p x : ℕ) → (x ≡ 0 → ⊥) → get_or src p 0 ≡ x → p < length src
+stands src p x n e = ⊎_elim (λ l. l) (λ g. absurd (n (sym e ∙ get_or_past src p 0 g))) (cases_lt p (length src))
 
 module _ (src : Bytes) (p : ℕ) where
   pub line_no_bytes : p ≡ length src → no_bytes ≡ eol_at p (drop p src)

@@ -4,8 +4,7 @@ ghost use Rattle.format.specs.Bytes.{is_white, is_delimiter, is_regular, is_eol,
 ghost use Rattle.format.specs.Names.{hex_digit};
 ghost use Rattle.format.specs.Strings.{is_hex};
 
-// Each byte of a run is asked whether it is one of these, so they are compared one by one: by `matches!` a long run took twice as long, and where one of the two is
-// written so, half as long again.
+// Every byte of a run is asked, so they are compared one by one: by `matches!` a long run took twice as long.
 #[tactic(auto, using(std::proofs::lemmas::Bool::Decides::nat_tests), unfolding(format::specs::Bytes::is_white))]
 pub fn is_white(b: u8) -> bool
     ensures { result ≡ is_white b }
@@ -13,6 +12,7 @@ pub fn is_white(b: u8) -> bool
     b == b' ' || b == b'\n' || b == b'\r' || b == b'\t' || b == 0 || b == 12
 }
 
+// One by one, as above.
 #[tactic(auto, using(std::proofs::lemmas::Bool::Decides::nat_tests), unfolding(format::specs::Bytes::is_delimiter))]
 pub fn is_delimiter(b: u8) -> bool
     ensures { result ≡ is_delimiter b }

@@ -20,19 +20,13 @@ impl Lexer<'_> {
         ensures is { line_shown self.entry.src.now result ≡ eol_at self.entry.place (drop self.entry.place self.entry.src.now) }
         ensures within { IfOk result (λ q. (self.entry.place < q) × (q ≤ length self.entry.src.now)) }
     {
-        let (src, at) = (self.src, self.place);
-        if at == src.len() {
-            return Err(Lack::Short);
+        let at = self.place;
+        match &self.src[at..] {
+            [] => Err(Lack::Short),
+            [b'\n', ..] => Ok(at + 1),
+            [b'\r', b'\n', ..] => Ok(at + 2),
+            [b'\r', ..] => Ok(at + 1),
+            _ => Err(Lack::Misfit),
         }
-        if src[at] == b'\n' {
-            return Ok(at + 1);
-        }
-        if src[at] != b'\r' {
-            return Err(Lack::Misfit);
-        }
-        if at + 1 < src.len() && src[at + 1] == b'\n' {
-            return Ok(at + 2);
-        }
-        Ok(at + 1)
     }
 }

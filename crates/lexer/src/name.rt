@@ -49,19 +49,19 @@ pub(crate) fn check_name(run: &[u8], from: usize) -> Result<(), Flaw>
     Ok(())
 }
 
-// The next byte that a name stands for, and the place in it behind what gives that byte.
-fn spelled_byte(name: &[u8], at: usize) -> (u8, usize)
-    requires { at < length name.now }
-    ensures is { spelled (drop at name.now) ≡ result.0 ∷ spelled (drop result.1 name.now) }
-    ensures within { (at < result.1) × (result.1 ≤ length name.now) }
+// The first byte that a name stands for, and the place in it behind what gives that byte.
+fn spelled_byte(name: &[u8]) -> (u8, usize)
+    requires { 0 < length name.now }
+    ensures is { spelled name.now ≡ result.0 ∷ spelled (drop result.1 name.now) }
+    ensures within { (0 < result.1) × (result.1 ≤ length name.now) }
 {
-    let b = name[at];
+    let b = name[0];
     if b != b'#' {
-        return (b, at + 1);
+        return (b, 1);
     }
-    match escaped(name, at) {
-        Some(byte) => (byte, at + 3),
-        None => (b, at + 1),
+    match escaped(name, 0) {
+        Some(byte) => (byte, 3),
+        None => (b, 1),
     }
 }
 
@@ -81,7 +81,7 @@ impl Iterator for SpelledBytes<'_> {
         if name.len() == 0 {
             return None;
         }
-        let (byte, behind) = spelled_byte(name, 0);
+        let (byte, behind) = spelled_byte(name);
         self.0 = &name[behind..];
         Some(byte)
     }

@@ -112,15 +112,10 @@ pub fn numeral_of(run: &[u8], from: usize) -> Result<Numeral, Flaw>
     requires { from + length run.now < 2 ^ 64 }
     ensures { number_shown run.now result ≡ numeral_kind run.now (numeral from run.now) }
 {
-    if run.len() == 0 {
-        return Err(Flaw::BadNumber(from));
-    }
-    let b = run[0];
-    if b == b'-' {
-        part_of(Sign::Minus, &run[1..], from + 1)
-    } else if b == b'+' {
-        part_of(Sign::Plus, &run[1..], from + 1)
-    } else {
-        part_of(Sign::Absent, run, from)
+    match run {
+        [] => Err(Flaw::BadNumber(from)),
+        [b'-', digits @ ..] => part_of(Sign::Minus, digits, from + 1),
+        [b'+', digits @ ..] => part_of(Sign::Plus, digits, from + 1),
+        _ => part_of(Sign::Absent, run, from),
     }
 }

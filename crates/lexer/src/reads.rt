@@ -1,5 +1,6 @@
 // The token that starts at a place.
-ghost use Rattle.std.specs.Prelude.{◌≡◌, drop};
+ghost use Rattle.std.specs.Prelude.{◌≡◌, ◌+◌, ◌≤◌, length, drop};
+ghost use Rattle.format.specs.Bytes.{is_regular, span, up_to};
 ghost use Rattle.format.specs.Numbers.{starts_number};
 ghost use Rattle.format.specs.Tokens.{after_less, after_greater, marked, start_at};
 ghost use Rattle.lexer.specs.Heads.{ReadAs, name, run, text};
@@ -21,17 +22,26 @@ fn starts_number(b: u8) -> bool
 }
 
 impl<'a> Head<'a> {
+    // The place behind the regular bytes that follow the first byte.
+    fn run_end(self) -> usize
+        ensures is { span is_regular (self.entry.at + 1) (drop (self.entry.at + 1) self.entry.src.now) ≡ (up_to (self.entry.at + 1) (drop (self.entry.at + 1) self.entry.src.now) result, result, drop result self.entry.src.now) }
+        ensures low { self.entry.at + 1 ≤ result }
+        ensures high { result ≤ length self.entry.src.now }
+    {
+        let behind = Lexer {
+            src: self.src,
+            place: self.at + 1,
+        };
+        behind.run_end()
+    }
+
     // A name, whose `/` is the first byte.
     fn name(self) -> Result<(Token<'a>, usize), Flaw>
         ensures is { ReadAs name self.entry result }
         ensures takes { Takes self.entry.src.now self.entry.at result }
     {
         let from = self.at + 1;
-        let to = Lexer {
-            src: self.src,
-            place: from,
-        }
-        .run_end();
+        let to = self.run_end();
         let name = &self.src[from..to];
         check_name(name, from)?;
         Ok((Token::Name(name), to))
@@ -51,15 +61,14 @@ impl<'a> Head<'a> {
         ensures is { ReadAs after_less self.entry result }
         ensures takes { Takes self.entry.src.now self.entry.at result }
     {
-        let at = self.at;
-        if at + 1 == self.src.len() {
-            return Err(Flaw::CutShort(at + 1));
+        match self.src.get(self.at + 1) {
+            None => Err(Flaw::CutShort(self.at + 1)),
+            Some(b'<') => Ok((Token::OpenDict, self.at + 2)),
+            Some(_) => {
+                let to = self.hex_end()?;
+                Ok((Token::Hex(&self.src[self.at..to]), to))
+            }
         }
-        if self.src[at + 1] == b'<' {
-            return Ok((Token::OpenDict, at + 2));
-        }
-        let to = self.hex_end()?;
-        Ok((Token::Hex(&self.src[at..to]), to))
     }
 
     // `>>`, whose first `>` is the first byte.
@@ -67,13 +76,10 @@ impl<'a> Head<'a> {
         ensures is { ReadAs after_greater self.entry result }
         ensures takes { Takes self.entry.src.now self.entry.at result }
     {
-        let at = self.at;
-        if at + 1 == self.src.len() {
-            Err(Flaw::CutShort(at + 1))
-        } else if self.src[at + 1] == b'>' {
-            Ok((Token::CloseDict, at + 2))
-        } else {
-            Err(Flaw::Stray)
+        match self.src.get(self.at + 1) {
+            None => Err(Flaw::CutShort(self.at + 1)),
+            Some(b'>') => Ok((Token::CloseDict, self.at + 2)),
+            Some(_) => Err(Flaw::Stray),
         }
     }
 
@@ -82,17 +88,12 @@ impl<'a> Head<'a> {
         ensures is { ReadAs run self.entry result }
         ensures takes { Takes self.entry.src.now self.entry.at result }
     {
-        let at = self.at;
-        let to = Lexer {
-            src: self.src,
-            place: at + 1,
-        }
-        .run_end();
-        let run = &self.src[at..to];
-        if !starts_number(self.src[at]) {
+        let to = self.run_end();
+        let run = &self.src[self.at..to];
+        if !starts_number(self.src[self.at]) {
             return Ok((Token::Word(run), to));
         }
-        let number = numeral_of(run, at)?;
+        let number = numeral_of(run, self.at)?;
         match number {
             Numeral::Unsigned(n) => Ok((Token::Unsigned(n), to)),
             Numeral::Signed(z) => Ok((Token::Signed(z), to)),
