@@ -7,7 +7,7 @@ use Rattle.std.proofs.lemmas.Bool.{eq-eqb, ne_eqb}
 use Rattle.faults.specs.declared.reason.Reason.TheVariants.{BytesEnd, BadFrame}
 use Rattle.format.specs.Bytes.{Bytes, ok, bad, end_of}
 use Rattle.format.specs.Failures.{object_fault}
-use Rattle.format.specs.Space.{no_bytes, no_eol, eol_to, after_cr, eol_at}
+use Rattle.format.specs.Space.{no_bytes, no_eol, eol_to, eol_at}
 use Rattle.format.specs.Frames.{stream_line, maybe_eol, end_stream, stream_data}
 use Rattle.lexer.specs.declared.line.Lack.{Lack}
 use Rattle.lexer.specs.declared.line.Lack.TheVariants.{Short, Misfit}

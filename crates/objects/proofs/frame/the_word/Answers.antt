@@ -25,4 +25,4 @@ pub returns-in_err-found-clause-is : goal.returns-in_err-found-clause-is
 returns-in_err-found-clause-is c =
     let z = handed c.from_residual.result c.in_err-found.field-0.0 c.from_residual.ensures.1 in
     let told = c.in_err-found.ensures in
-    rw z (word_missing _ _ _ (flawed_word _ _ _ told.is _) (unfit_flawed (token_in c.args.src.now c.args.from) _ told.is))
+    rw z (word_missing _ _ _ (flawed_word _ _ _ told.is _) (unfit_flawed (token_in c.args.at.src.now c.args.at.place) _ told.is))
