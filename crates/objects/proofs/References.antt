@@ -44,10 +44,6 @@ module _ (src : Bytes) (p q : ℕ) where
   pub took_nothing : (w : Bytes) → Takes src p q None → is_word w (token_in src p).kind ≡ false
   took_nothing w (x, e) = flawed_word src p x e w
 
-  -- the place behind it
-  pub took_within : (t : Token) → Takes src p q (Some t) → q ≤ length src
-  took_within t (f, i, j, e, h) = rw (sym j) h.inside
-
 -- a generation that fits, and one that does not
 pub generation_fits : {E : Type 0} (g : ℕ) (r : Result ℕ E) (x : ℕ) → OkIff r (g < 2 ^ 16) g → r ≡ Ok x → (g ≤ 65535) × (x ≡ g)
 generation_fits g r x h e = let f = OkIff-at_ok r (g < 2 ^ 16) g x h e in let l = f.0 in (omega arith, f.1)

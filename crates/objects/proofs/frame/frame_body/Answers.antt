@@ -1,18 +1,12 @@
-use Rattle.std.proofs.Common.{arith}
 use Rattle.objects.proofs.Cases.{handed}
 use Rattle.objects.proofs.Frames.{body_bad, end_bad, framed_whole}
 use Rattle.objects.proofs.frame.frame_body.Goals as goal
 
-pub returns : goal.returns
-returns c =
+pub returns-clause-is : goal.returns-clause-is
+returns-clause-is c =
     let b = rw (c.to.ensures.src, c.to.ensures.place) at c.in_ok-end.ensures.is in
-    let bw = rw (c.to.ensures.src, c.to.ensures.place) at c.in_ok-end.ensures.within in
     let w = rw (c.to-2.ensures.src, c.to-2.ensures.place) at c.in_ok-behind.ensures.is in
-    let ww = rw (c.to-2.ensures.src, c.to-2.ensures.place) at c.in_ok-behind.ensures.within in
-    record {
-      is = framed_whole _ _ _ _ _ c.skip_space-start.ensures.is _ b _ w;
-      within = (omega (arith, bw), ww.0, ww.1);
-    }
+    framed_whole _ _ _ _ _ c.skip_space-start.ensures.is _ b _ w
 
 pub returns-in_err-behind-clause-is : goal.returns-in_err-behind-clause-is
 returns-in_err-behind-clause-is c =

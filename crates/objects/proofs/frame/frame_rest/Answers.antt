@@ -2,11 +2,11 @@ use Rattle.objects.proofs.Cases.{handed}
 use Rattle.objects.proofs.Frames.{head_bad, obj_bad, head_there}
 use Rattle.objects.proofs.frame.frame_rest.Goals as goal
 
-pub returns : goal.returns
-returns c =
+pub returns-clause-is : goal.returns-clause-is
+returns-clause-is c =
     let w = rw (c.to.ensures.src, c.to.ensures.place) at c.in_ok-inside.ensures.is in
     let b = rw (c.to-2.ensures.src, c.to-2.ensures.place) at c.frame_body.ensures.is in
-    record { is = head_there _ _ _ _ _ c.in_ok-generation.ensures.is _ _ w b; within = rw c.to-2.ensures.src at c.frame_body.ensures.within }
+    head_there _ _ _ _ _ c.in_ok-generation.ensures.is _ _ w b
 
 pub returns-in_err-inside-clause-is : goal.returns-in_err-inside-clause-is
 returns-in_err-inside-clause-is c =

@@ -9,15 +9,12 @@ returns-then-skip_space-ne0-clause-is c =
     let space = rw (c.new-at.ensures.src, c.new-at.ensures.place) at c.skip_space.ensures.is in
     ap bad c.met.ensures ∙ frame_loose _ _ space c.if-skip_space-ne0.true
 
-pub returns : goal.returns
-returns c =
+pub returns-clause-is : goal.returns-clause-is
+returns-clause-is c =
     let space = rw (c.new-at.ensures.src, c.new-at.ensures.place) at c.skip_space.ensures.is in
     let number = rw (c.new-at.ensures.src, c.new-at.ensures.place) at c.in_ok-number.ensures.is in
     let rest = rw (c.to.ensures.src, c.new-at.ensures.src, c.to.ensures.place) at c.frame_rest.ensures.is in
-    record {
-      is = frame_there _ _ space c.if-skip_space-ne0.false _ _ _ number rest;
-      within = rw (c.to.ensures.src, c.new-at.ensures.src) at c.frame_rest.ensures.within;
-    }
+    frame_there _ _ space c.if-skip_space-ne0.false _ _ _ number rest
 
 pub returns-in_err-number-clause-is : goal.returns-in_err-number-clause-is
 returns-in_err-number-clause-is c =
