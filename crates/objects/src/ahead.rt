@@ -52,8 +52,8 @@ pub fn closing(at: Lexer<'_>) -> Option<usize>
 }
 
 // Whether a walk that stops before a place has come to it.
-pub fn is_reached(stop: Option<usize>, at: usize) -> bool
-    ensures { result ≡ reached stop at }
+pub fn is_reached(stop: Option<usize>, place: usize) -> bool
+    ensures { result ≡ reached stop place }
 {
-    stop.is_some_and(|place| place <= at)
+    stop.is_some_and(|stop| stop <= place)
 }

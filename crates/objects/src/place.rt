@@ -8,7 +8,7 @@ use faults::layer::Layer;
 use faults::reason::Reason;
 use lexer::reader::Lexer;
 
-// The bytes from a place on, which stands within them or at their end; past it, the bytes end before the place.
+// A reader of the bytes from the place on, which stands within them or at their end; past it, the bytes end before the place.
 pub fn lexer_at(src: &[u8], from: usize) -> Result<Lexer<'_>, Fault>
     ensures { MatchResult result (λ at. (at.src.now ≡ src.now) × (at.place ≡ from)) (λ f. (length src.now < from) × (f ≡ object_fault BytesEnd from)) }
 {
