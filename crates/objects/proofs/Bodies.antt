@@ -12,7 +12,7 @@ use Rattle.format.specs.Failures.{object_fault}
 use Rattle.format.specs.Strings.{turns}
 use Rattle.format.specs.Tokens.{Token, token_at}
 use Rattle.format.specs.Objects.{Obj, null, boolean, integer, decimal, literal, hexadecimal, named, array, dict, ref, Objs, Entries, no_entries, Reader, is_word, items, entries, one, in_array, in_dict, object_by, object, value_of}
-use Rattle.format.specs.Frames.{length_of, entries_of, length_here, stream_line, stream_rest, streamed, body_at, starts_loose, body_ends, body_fault}
+use Rattle.format.specs.Frames.{length_of, entries_of, length_here, stream_rest, streamed, body_at, starts_loose, body_ends, body_fault}
 use Rattle.lexer.specs.declared.token.Found.{Found}
 use Rattle.lexer.specs.Views.{kind_of, found_token, Placed}
 use Rattle.objects.specs.declared.shape.Shape.{Shape}
@@ -194,10 +194,6 @@ no_length shapes.Name h = refl
 no_length shapes.Array h = refl
 no_length shapes.Dictionary h = refl
 no_length (shapes.Reference n g) h = refl
-
--- the end of line behind `stream` is refused
-pub line_refused : (o : Option ℕ) (len w q : ℕ) (ys : Bytes) (f : Fault) → Some len ≡ o → bad f ≡ stream_line q ys → bad f ≡ rest_got o w q ys
-line_refused o len w q ys f e h = let d = sym h in rw (sym e, d) refl
 
 -- the word `stream` where it stands next
 pub word_stands : (src : Bytes) (p : ℕ) (f : Found) (b : Bool) (r : Option (ℕ × ℕ)) → token_in src p ≡ found_token src f → Placed src p f → b ≡ is_word (codes "stream") (kind_of f.token) → r ≡ then_some b (f.from, f.to) →

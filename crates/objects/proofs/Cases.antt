@@ -1,5 +1,5 @@
 -- Ways to go by the value of a term, with the equation at hand.
-use Rattle.std.proofs.Common.{◌≡◌, ℕ, ◌<◌, ◌≤◌, Bool, true, false, IfOk, MatchResult, Some, None, Ok, Err, Option, Result, refl, ap, arith}
+use Rattle.std.proofs.Common.{◌≡◌, ℕ, Bool, true, false, MatchResult, Some, None, Ok, Err, Option, Result, refl, ap, arith}
 use Rattle.std.specs.Option.{ok_or}
 use Rattle.std.specs.Result.{result_ok, IsErrAnd}
 use Rattle.faults.specs.declared.fault.Fault.{Fault}
@@ -61,11 +61,6 @@ moved_err b (Err f) (Err h) g m e = let i : g ≡ h = cc in (f, refl, rw i m)
 -- a test is not both
 pub not_both : {P : Type 0} (b : Bool) → b ≡ true → b ≡ false → P
 not_both b e f = absurd (let z : ◌≡◌ {A = ℕ} 0 1 = cc in omega arith)
-
--- what lies behind a place lies behind an earlier one
-pub further : (r : Result ℕ Fault) (a b n : ℕ) → b ≤ a → IfOk r (λ q. (a < q) × (q ≤ n)) → IfOk r (λ q. (b < q) × (q ≤ n))
-further (Ok q) a b n h (l, m) = (omega arith, m)
-further (Err f) a b n h l = tt
 
 -- a refusal that is handed up
 pub handed : {T : Type 0} (r : Result T Fault) (f : Fault) → IsErrAnd r (λ g. g ≡ f) → r ≡ Err f

@@ -1,7 +1,6 @@
 -- What a token that was found means where it stands.
 use Rattle.std.proofs.Common.{◌≡◌, ℕ, ◌<◌, true, false, drop, pos, Some, None, codes, Option, refl, ap, arith}
 use Rattle.faults.specs.declared.fault.Fault.{Fault}
-use Rattle.faults.specs.declared.reason.Reason.{Reason}
 use Rattle.faults.specs.declared.reason.Reason.TheVariants.{BadToken}
 use Rattle.format.specs.Bytes.{Bytes, Got, ok, bad, same}
 use Rattle.format.specs.Failures.{object_fault}
@@ -112,22 +111,6 @@ no_entry p CloseArray h i = refl
 no_entry p OpenDict h i = refl
 no_entry p CloseDict h i = absurd (i refl)
 no_entry p End h i = refl
-
--- a token that is not the end of the bytes does not fit for the reason
-pub misplaced_other : (r : Reason) (p : ℕ) (t : Token) → (t ≡ End → ⊥) → misplaced r p t ≡ object_fault r p
-unfolding misplaced
-misplaced_other r p (Unsigned n) h = refl
-misplaced_other r p (Signed z) h = refl
-misplaced_other r p (Real s) h = refl
-misplaced_other r p (Name s) h = refl
-misplaced_other r p (Text s) h = refl
-misplaced_other r p (Hex s) h = refl
-misplaced_other r p (Word s) h = refl
-misplaced_other r p OpenArray h = refl
-misplaced_other r p CloseArray h = refl
-misplaced_other r p OpenDict h = refl
-misplaced_other r p CloseDict h = refl
-misplaced_other r p End h = absurd (h refl)
 
 -- a token that is no integer without a sign
 pub no_int : (t : Token) → ((n : ℕ) → t ≡ Unsigned n → ⊥) → plain_int (kind_of t) ≡ None

@@ -97,7 +97,3 @@ module _ (src : Bytes) (n p : ℕ) where
 -- nothing was found
 pub tries_none : (src : Bytes) (n p q : ℕ) (r : Option ℕ) → r ≡ None → ref_rest n (token_in src p) ≡ None → q ≡ p → Tries src n p q r
 tries_none src n p q r e f h = rw e (f, h)
-
--- the same bytes and place by other names
-pub tries_at : (src xs : Bytes) (n p s q : ℕ) (r : Option ℕ) → xs ≡ src → s ≡ p → Tries xs n s q r → Tries src n p q r
-tries_at src xs n p s q r e f h = rw (← e, ← f) h

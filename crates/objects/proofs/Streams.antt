@@ -1,5 +1,5 @@
 -- The parts of a stream, at a place of the bytes.
-use Rattle.std.proofs.Common.{◌≡◌, ℕ, suc, ◌+◌, ◌-◌, ◌<◌, ◌≤◌, true, false, leb, List, [], ◌∷◌, length, get_or, drop, Ok, Err, Result, IfOk, sym, refl, ap, ◌∙◌, add-one, arith, length-drop, drop-cons, drop-drop, le-leb}
+use Rattle.std.proofs.Common.{◌≡◌, ℕ, suc, ◌+◌, ◌-◌, ◌<◌, ◌≤◌, true, false, leb, List, [], ◌∷◌, length, get_or, drop, Ok, Err, Result, sym, refl, ap, ◌∙◌, add-one, arith, length-drop, drop-cons, drop-drop, le-leb}
 use borrow.Author.Tests.{lt-leb}
 use Rattle.std.specs.Result.{result_unwrap_or}
 use Rattle.std.proofs.lemmas.List.{at_drop_all}
@@ -7,7 +7,7 @@ use Rattle.std.proofs.lemmas.Bool.{eq-eqb, ne_eqb}
 use Rattle.faults.specs.declared.reason.Reason.TheVariants.{BytesEnd, BadFrame}
 use Rattle.format.specs.Bytes.{Bytes, ok, bad, end_of}
 use Rattle.format.specs.Failures.{object_fault}
-use Rattle.format.specs.Space.{no_bytes, no_eol, eol_to, after_cr, eol_at}
+use Rattle.format.specs.Space.{no_bytes, no_eol, eol_to, eol_at}
 use Rattle.format.specs.Frames.{stream_line, maybe_eol, end_stream, stream_data}
 use Rattle.lexer.specs.declared.line.Lack.{Lack}
 use Rattle.lexer.specs.declared.line.Lack.TheVariants.{Short, Misfit}
@@ -89,10 +89,6 @@ module _ (src : Bytes) (p : ℕ) where
   eol_skipped (Ok q) e = eol_to_fact q (sym e)
   eol_skipped (Err Short) e = eol_nothing (sym e)
   eol_skipped (Err Misfit) e = eol_no (sym e)
-
-  pub skipped_within : (r : Result ℕ Lack) → p ≤ length src → IfOk r (λ q. (p < q) × (q ≤ length src)) → (p ≤ result_unwrap_or r p) × (result_unwrap_or r p ≤ length src)
-  skipped_within (Ok q) h (a, b) = (omega arith, b)
-  skipped_within (Err e) h w = (omega arith, h)
 
 module _ (src : Bytes) (p : ℕ) where
   -- too few bytes for the data

@@ -6,7 +6,7 @@ use Rattle.format.specs.Bytes.{Bytes, Got, ok, bad, then, up_to, same}
 use Rattle.format.specs.Failures.{object_fault}
 use Rattle.format.specs.Space.{skip}
 use Rattle.format.specs.Strings.{turns}
-use Rattle.format.specs.Objects.{Obj, more_objs, Entries, no_entries, more_entries, Reader, closes_array, items, holds, closes, key, fails, valued}
+use Rattle.format.specs.Objects.{Obj, more_objs, Entries, more_entries, Reader, closes_array, items, holds, closes, key, fails, valued}
 use Rattle.objects.specs.declared.shape.Shape.{Shape}
 use Rattle.objects.specs.declared.shape.Value.{Value}
 use Rattle.objects.specs.Shapes.{shape_of, shaped}
@@ -34,10 +34,6 @@ module _ (elem : Reader) (src : Bytes) where
   -- what is to be read of an array from p on comes to z, with turns enough
   abbrev pub Elements : ℕ → Got Unit → Type 0
   Elements p z = (n : ℕ) × (length src < n + p) × (bare (items elem n p (drop p src)) ≡ z)
-
-  -- at its first element
-  pub elements_all : (p : ℕ) → length src < turns → Elements p (bare (items elem turns p (drop p src)))
-  elements_all p l = (turns, omega arith, refl)
 
   module _ (p : ℕ) (z : Got Unit) (h : p ≤ length src) where
     -- at the mark that closes it
@@ -69,10 +65,6 @@ module _ (c : Bool) (d : ℕ) (src : Bytes) (first : ℕ) where
   -- no walk met the key k before p, or none was asked for
   abbrev pub Fresh : ℕ → Bytes → Type 0
   Fresh p k = c ≡ true → is_some (find (read_by false d) turns k (Some p) first (drop first src)) ≡ false
-
-  -- at its first entry
-  pub entered_all : length src < turns → Entered first (bare (entries_by c (read_by c d) turns no_entries first (drop first src)))
-  entered_all l = (turns, no_entries, omega arith, refl, refl)
 
   module _ (p : ℕ) (z : Got Unit) (h : p ≤ length src) where
     -- at the mark that closes it
@@ -139,10 +131,6 @@ module _ (elem : Reader) (src k : Bytes) (stop : Option ℕ) where
   -- what a walk from p on finds is z, with turns enough
   abbrev pub Walking : ℕ → Option Value → Type 0
   Walking p z = (n : ℕ) × (length src < n + p) × (find elem n k stop p (drop p src) ≡ z)
-
-  -- at its start
-  pub walking_all : (p : ℕ) → length src < turns → Walking p (find elem turns k stop p (drop p src))
-  walking_all p l = (turns, omega arith, refl)
 
   module _ (p : ℕ) (z : Option Value) (h : p ≤ length src) where
     -- where it has to stop

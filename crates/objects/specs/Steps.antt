@@ -11,6 +11,7 @@ use Rattle.format.specs.Objects.{ref, Reader, Next, closes, key, fails, next, cl
 use Rattle.lexer.specs.declared.token.Token as code
 use Rattle.lexer.specs.declared.token.Token.TheVariants as tokens
 use Rattle.lexer.specs.declared.token.Found.{Found}
+use Rattle.lexer.specs.declared.reader.Lexer.{Lexer}
 use Rattle.lexer.specs.Views.{found_token, token_fault_of, Placed}
 use Rattle.objects.specs.declared.shape.Shape.{Shape}
 use Rattle.objects.specs.declared.shape.Shape.TheVariants as shapes
@@ -38,6 +39,10 @@ placed src (Err f) = bad f
 abbrev pub bare : {A : Type 0} → Got A → Got Unit
 bare (ok a q ys) = ok tt q ys
 bare (bad f) = bad f
+
+-- the bytes from a reader's place on
+abbrev pub rest_of : Lexer → Bytes
+rest_of at = drop at.place at.src.now
 
 -- the token at a place of the bytes
 abbrev pub token_in : Bytes → ℕ → Token

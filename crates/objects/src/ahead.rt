@@ -1,12 +1,13 @@
 // What an array or a dictionary has next.
-ghost use Rattle.std.specs.Prelude.{◌≡◌, ◌≤◌, length};
+ghost use Rattle.std.specs.Prelude.{◌≡◌};
 ghost use Rattle.objects.specs.Extents.{reached};
 ghost use Rattle.objects.specs.Steps.{Has, ClosesArray};
 
 use crate::tokens::misplaced;
 use faults::fault::Fault;
 use faults::reason::Reason;
-use lexer::token::{Token, token_at};
+use lexer::reader::Lexer;
+use lexer::token::Token;
 
 // What a dictionary has next, with the place behind it.
 #[derive(Clone, Copy)]
@@ -24,11 +25,10 @@ pub enum Ahead<'a> {
 }
 
 // What a dictionary has next.
-pub fn next_in<'a>(src: &'a [u8], from: usize) -> Result<Ahead<'a>, Fault>
-    requires { from ≤ length src.now }
-    ensures { Has src.now from result }
+pub fn next_in(at: Lexer<'_>) -> Result<Ahead<'_>, Fault>
+    ensures { Has at.entry.src.now at.entry.place result }
 {
-    let found = token_at(src, from)?;
+    let found = at.token()?;
     match found.token {
         Token::CloseDict => Ok(Ahead::Closes { behind: found.to }),
         Token::Name(name) => Ok(Ahead::Key {
@@ -41,11 +41,10 @@ pub fn next_in<'a>(src: &'a [u8], from: usize) -> Result<Ahead<'a>, Fault>
 }
 
 // The place behind the mark that closes an array, if it stands next.
-pub fn closing(src: &[u8], from: usize) -> Option<usize>
-    requires { from ≤ length src.now }
-    ensures { ClosesArray src.now from result }
+pub fn closing(at: Lexer<'_>) -> Option<usize>
+    ensures { ClosesArray at.entry.src.now at.entry.place result }
 {
-    let found = token_at(src, from).ok()?;
+    let found = at.token().ok()?;
     match found.token {
         Token::CloseArray => Some(found.to),
         _ => None,
@@ -53,8 +52,8 @@ pub fn closing(src: &[u8], from: usize) -> Option<usize>
 }
 
 // Whether a walk that stops before a place has come to it.
-pub fn is_reached(stop: Option<usize>, at: usize) -> bool
-    ensures { result ≡ reached stop at }
+pub fn is_reached(stop: Option<usize>, place: usize) -> bool
+    ensures { result ≡ reached stop place }
 {
-    stop.is_some_and(|place| place <= at)
+    stop.is_some_and(|stop| stop <= place)
 }

@@ -12,7 +12,8 @@ use crate::reading::Reading;
 use crate::tokens::misplaced;
 use faults::fault::Fault;
 use faults::reason::Reason;
-use lexer::token::{Token, token_at};
+use lexer::reader::Lexer;
+use lexer::token::Token;
 
 // A dictionary: the place of its `<<`, the place behind that, where its entries start, and the place behind its `>>`.
 #[derive(Clone, Copy, Debug, PartialEq, Eq)]
@@ -23,11 +24,10 @@ pub struct Dictionary {
 }
 
 // The `<<` that has to stand next: its place, and the place behind it.
-fn opening(src: &[u8], from: usize) -> Result<(usize, usize), Fault>
-    requires { from ≤ length src.now }
-    ensures { Opening src.now from result }
+fn opening(at: Lexer<'_>) -> Result<(usize, usize), Fault>
+    ensures { Opening at.entry.src.now at.entry.place result }
 {
-    let found = token_at(src, from)?;
+    let found = at.token()?;
     match found.token {
         Token::OpenDict => Ok((found.from, found.to)),
         _ => Err(misplaced(found, Reason::BadToken)),
@@ -35,12 +35,11 @@ fn opening(src: &[u8], from: usize) -> Result<(usize, usize), Fault>
 }
 
 // The dictionary that has to stand next.
-fn marked(src: &[u8], from: usize) -> Result<Dictionary, Fault>
-    requires { from ≤ length src.now }
-    ensures { MatchResult result (Opened src.now from) (λ f. trailer_at (token_in src.now from) ≡ bad f) }
+fn marked(at: Lexer<'_>) -> Result<Dictionary, Fault>
+    ensures { MatchResult result (Opened at.entry.src.now at.entry.place) (λ f. trailer_at (token_in at.entry.src.now at.entry.place) ≡ bad f) }
 {
-    let (mark, inside) = opening(src, from)?;
-    let end = read_dictionary(src, inside, Reading::checked(31))?;
+    let (mark, inside) = opening(at)?;
+    let end = read_dictionary(at.to(inside), Reading::checked(31))?;
     Ok(Dictionary { mark, inside, end })
 }
 
@@ -50,5 +49,5 @@ pub fn dictionary_at(base: usize, src: &[u8], from: usize) -> Result<Dictionary,
     requires { (from ≤ length src.now) × (base + length src.now < 2 ^ 64) }
     ensures { MatchResult result (OpenedAt base src.now from) (λ f. trailer_at (token_at (base + from) (drop from src.now)) ≡ bad f) }
 {
-    marked(src, from).map_err(|fault| later_fault(base, fault))
+    marked(Lexer::new(src).to(from)).map_err(|fault| later_fault(base, fault))
 }

@@ -1,9 +1,9 @@
 // An object in the file, in a window of bytes that starts where it does.
-ghost use Rattle.std.specs.Prelude.{◌≡◌, ◌+◌, ◌^◌, ◌<◌, ◌≤◌, false, length, drop, IfOk};
+ghost use Rattle.std.specs.Prelude.{◌≡◌, ◌+◌, ◌^◌, ◌<◌, ◌≤◌, false, length, IfOk};
 ghost use Rattle.format.specs.Space.{skip};
 ghost use Rattle.format.specs.Frames.{the_int, the_word, framed_body, frame};
 ghost use Rattle.objects.specs.Framing.{int_got, framed, head_of, Ordered, moved_frame, framed_at, FrameLies};
-ghost use Rattle.objects.specs.Steps.{placed, token_in};
+ghost use Rattle.objects.specs.Steps.{placed, token_in, rest_of};
 
 use crate::body::read_body;
 use crate::later::later_fault;
@@ -11,8 +11,8 @@ use crate::tokens::{is_word, misplaced};
 use faults::fault::Fault;
 use faults::layer::Layer;
 use faults::reason::Reason;
-use lexer::space::skip_space;
-use lexer::token::{Token, token_at};
+use lexer::reader::Lexer;
+use lexer::token::Token;
 
 // An object in the file: its number, its generation, its body from its start to its end, and the place behind `endobj`.
 #[derive(Clone, Copy, Debug, PartialEq, Eq)]
@@ -40,12 +40,11 @@ impl Frame {
 }
 
 // An integer without a sign, which has to stand next, and the place behind it.
-fn the_int(src: &[u8], from: usize) -> Result<(u32, usize), Fault>
-    requires { from ≤ length src.now }
-    ensures is { int_got src.now result ≡ the_int (token_in src.now from) }
-    ensures within { IfOk result (λ x. x.1 ≤ length src.now) }
+fn the_int(at: Lexer<'_>) -> Result<(u32, usize), Fault>
+    ensures is { int_got at.entry.src.now result ≡ the_int (token_in at.entry.src.now at.entry.place) }
+    ensures within { IfOk result (λ x. x.1 ≤ length at.entry.src.now) }
 {
-    let found = token_at(src, from)?;
+    let found = at.token()?;
     match found.token {
         Token::Unsigned(n) => Ok((n, found.to)),
         _ => Err(misplaced(found, Reason::BadFrame)),
@@ -53,12 +52,11 @@ fn the_int(src: &[u8], from: usize) -> Result<(u32, usize), Fault>
 }
 
 // A word, which has to stand next: the place behind it.
-fn the_word(src: &[u8], from: usize, word: &[u8]) -> Result<usize, Fault>
-    requires { from ≤ length src.now }
-    ensures is { placed src.now result ≡ the_word word.now (token_in src.now from) }
-    ensures within { IfOk result (λ q. (from ≤ q) × (q ≤ length src.now)) }
+fn the_word(at: Lexer<'_>, word: &[u8]) -> Result<usize, Fault>
+    ensures is { placed at.entry.src.now result ≡ the_word word.now (token_in at.entry.src.now at.entry.place) }
+    ensures within { IfOk result (λ q. (at.entry.place ≤ q) × (q ≤ length at.entry.src.now)) }
 {
-    let found = token_at(src, from)?;
+    let found = at.token()?;
     if !is_word(found.token, word) {
         return Err(misplaced(found, Reason::BadFrame));
     }
@@ -66,14 +64,13 @@ fn the_word(src: &[u8], from: usize, word: &[u8]) -> Result<usize, Fault>
 }
 
 // The body behind `obj`, and `endobj`.
-fn frame_body(src: &[u8], number: u32, generation: u32, from: usize) -> Result<Frame, Fault>
-    requires { from ≤ length src.now }
-    ensures is { framed src.now result ≡ framed_body number generation (skip false from (drop from src.now)) }
-    ensures within { IfOk result (Ordered (length src.now)) }
+fn frame_body(at: Lexer<'_>, number: u32, generation: u32) -> Result<Frame, Fault>
+    ensures is { framed at.entry.src.now result ≡ framed_body number generation (skip false at.entry.place (rest_of at.entry)) }
+    ensures within { IfOk result (Ordered (length at.entry.src.now)) }
 {
-    let start = skip_space(src, from);
-    let end = read_body(src, start)?;
-    let behind = the_word(src, end, b"endobj")?;
+    let start = at.skip_space();
+    let end = read_body(at.to(start))?;
+    let behind = the_word(at.to(end), b"endobj")?;
     Ok(Frame {
         number,
         generation,
@@ -84,14 +81,13 @@ fn frame_body(src: &[u8], number: u32, generation: u32, from: usize) -> Result<F
 }
 
 // The generation, `obj`, the body and `endobj`, behind the number.
-fn frame_rest(src: &[u8], number: u32, from: usize) -> Result<Frame, Fault>
-    requires { from ≤ length src.now }
-    ensures is { framed src.now result ≡ head_of number from (drop from src.now) }
-    ensures within { IfOk result (Ordered (length src.now)) }
+fn frame_rest(at: Lexer<'_>, number: u32) -> Result<Frame, Fault>
+    ensures is { framed at.entry.src.now result ≡ head_of number at.entry.place (rest_of at.entry) }
+    ensures within { IfOk result (Ordered (length at.entry.src.now)) }
 {
-    let (generation, next) = the_int(src, from)?;
-    let inside = the_word(src, next, b"obj")?;
-    frame_body(src, number, generation, inside)
+    let (generation, next) = the_int(at)?;
+    let inside = the_word(at.to(next), b"obj")?;
+    frame_body(at.to(inside), number, generation)
 }
 
 // The object whose number stands at the first byte: places count from there.
@@ -99,11 +95,12 @@ pub fn read_frame(src: &[u8]) -> Result<Frame, Fault>
     ensures is { framed src.now result ≡ frame 0 src.now }
     ensures within { IfOk result (Ordered (length src.now)) }
 {
-    if skip_space(src, 0) != 0 {
+    let at = Lexer::new(src);
+    if at.skip_space() != 0 {
         return Err(Fault::met(Reason::BadFrame, Layer::Object, 0));
     }
-    let (number, next) = the_int(src, 0)?;
-    frame_rest(src, number, next)
+    let (number, next) = the_int(at)?;
+    frame_rest(at.to(next), number)
 }
 
 // The object whose number stands at the first byte, which stands at the place `base` of the file: places count in the file.

@@ -9,7 +9,7 @@ ghost use Rattle.objects.specs.Nexts.{entry_in};
 ghost use Rattle.objects.specs.Steps.{seen, placed, bare};
 
 use crate::ahead::{Ahead, next_in};
-use crate::place::check_place;
+use crate::place::lexer_at;
 use crate::read::{find_value, read_dictionary, read_object, read_value};
 use crate::reading::Reading;
 use crate::shape::{Entry, Extent, Value};
@@ -19,24 +19,21 @@ use faults::fault::Fault;
 pub fn object_at(src: &[u8], from: usize) -> Result<Extent, Fault>
     ensures { seen src.now result ≡ shaped (object from (drop from src.now)) }
 {
-    check_place(src, from)?;
-    read_object(src, from, Reading::checked(32))
+    read_object(lexer_at(src, from)?, Reading::checked(32))
 }
 
 // The entries of a dictionary from `from` on, behind the mark that opens it: the place behind the mark that closes it.
 pub fn entries_end(src: &[u8], from: usize) -> Result<usize, Fault>
     ensures { placed src.now result ≡ bare (entries (object_by 31) turns no_entries from (drop from src.now)) }
 {
-    check_place(src, from)?;
-    read_dictionary(src, from, Reading::checked(31))
+    read_dictionary(lexer_at(src, from)?, Reading::checked(31))
 }
 
 // The value of the key that a name's bytes behind the `/` spell, among the entries from `from` on.
 pub fn value_of(src: &[u8], from: usize, name: &[u8]) -> Option<Value>
     ensures { result ≡ find (read_by false 31) turns (spelled name.now) None from (drop from src.now) }
 {
-    check_place(src, from).ok()?;
-    find_value(src, from, None, name, 31)
+    find_value(lexer_at(src, from).ok()?, None, name, 31)
 }
 
 // The entry that stands next in a dictionary that was accepted; none where the dictionary closes.
@@ -44,14 +41,14 @@ pub fn value_of(src: &[u8], from: usize, name: &[u8]) -> Option<Value>
 pub fn next_entry(src: &[u8], from: usize) -> Option<Entry>
     ensures { result ≡ entry_in src.now from }
 {
-    check_place(src, from).ok()?;
-    match next_in(src, from).ok()? {
+    let at = lexer_at(src, from).ok()?;
+    match next_in(at).ok()? {
         Ahead::Key {
             start: key,
             behind,
             ..
         } => {
-            let value = read_value(src, behind, Reading::unchecked(31)).ok()?;
+            let value = read_value(at.to(behind), Reading::unchecked(31)).ok()?;
             Some(Entry { key, behind, value })
         }
         Ahead::Closes { .. } => None,

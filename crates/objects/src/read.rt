@@ -1,11 +1,11 @@
 // Objects, arrays and dictionaries.
-ghost use Rattle.std.specs.Prelude.{◌≡◌, ◌<◌, ◌≤◌, false, length, drop, IfOk};
+ghost use Rattle.std.specs.Prelude.{◌≡◌, ◌<◌, ◌≤◌, false, length, IfOk};
 ghost use Rattle.format.specs.Strings.{turns};
 ghost use Rattle.format.specs.Objects.{items, no_entries};
 ghost use Rattle.objects.specs.Shapes.{shaped};
 ghost use Rattle.lexer.specs.Spelled.{spelled};
 ghost use Rattle.objects.specs.Extents.{read_by, entries_by, find};
-ghost use Rattle.objects.specs.Steps.{seen, placed, bare, Valued};
+ghost use Rattle.objects.specs.Steps.{seen, placed, bare, rest_of, Valued};
 
 use crate::ahead::{Ahead, closing, is_reached, next_in};
 use crate::reading::Reading;
@@ -15,20 +15,19 @@ use faults::fault::Fault;
 use faults::layer::Layer;
 use faults::reason::Reason;
 use lexer::name::same_name;
-use lexer::space::skip_space;
+use lexer::reader::Lexer;
 
-// The object at `from`.
+// The object that stands next.
 #[cycle(nested)]
-pub fn read_object(src: &[u8], from: usize, reading: Reading) -> Result<Extent, Fault>
-    requires { from ≤ length src.now }
-    ensures is { seen src.now result ≡ shaped (read_by reading.check reading.depth from (drop from src.now)) }
-    ensures within { IfOk result (λ e. (from < e.end) × (e.end ≤ length src.now)) }
+pub fn read_object(at: Lexer<'_>, reading: Reading) -> Result<Extent, Fault>
+    ensures is { seen at.entry.src.now result ≡ shaped (read_by reading.check reading.depth at.entry.place (rest_of at.entry)) }
+    ensures within { IfOk result (λ e. (at.entry.place < e.end) × (e.end ≤ length at.entry.src.now)) }
 {
-    match start_of(src, from)? {
+    match start_of(at)? {
         Start::Whole(extent) => Ok(extent),
         Start::Array { mark, inside } => {
             let inner = reading.deeper(mark)?;
-            let end = read_array(src, inside, inner)?;
+            let end = read_array(at.to(inside), inner)?;
             Ok(Extent {
                 shape: Shape::Array,
                 end,
@@ -36,7 +35,7 @@ pub fn read_object(src: &[u8], from: usize, reading: Reading) -> Result<Extent, 
         }
         Start::Dictionary { mark, inside } => {
             let inner = reading.deeper(mark)?;
-            let end = read_dictionary(src, inside, inner)?;
+            let end = read_dictionary(at.to(inside), inner)?;
             Ok(Extent {
                 shape: Shape::Dictionary,
                 end,
@@ -47,88 +46,80 @@ pub fn read_object(src: &[u8], from: usize, reading: Reading) -> Result<Extent, 
 
 // The value behind a key, from behind white space on.
 #[cycle(nested)]
-pub fn read_value(src: &[u8], behind: usize, reading: Reading) -> Result<Value, Fault>
-    requires { behind ≤ length src.now }
-    ensures { Valued reading.check reading.depth src.now behind result }
+pub fn read_value(behind: Lexer<'_>, reading: Reading) -> Result<Value, Fault>
+    ensures { Valued reading.check reading.depth behind.entry.src.now behind.entry.place result }
 {
-    let start = skip_space(src, behind);
-    let Extent { shape, end } = read_object(src, start, reading)?;
+    let start = behind.skip_space();
+    let Extent { shape, end } = read_object(behind.to(start), reading)?;
     Ok(Value { start, end, shape })
 }
 
-// The elements of an array from `from` on: the place behind the mark that closes it.
+// The elements of an array from the first on: the place behind the mark that closes it.
 #[cycle(nested)]
-pub fn read_array(src: &[u8], from: usize, reading: Reading) -> Result<usize, Fault>
-    requires { from ≤ length src.now }
-    ensures is { placed src.now result ≡ bare (items (read_by reading.check reading.depth) turns from (drop from src.now)) }
-    ensures within { IfOk result (λ q. (from < q) × (q ≤ length src.now)) }
+pub fn read_array(first: Lexer<'_>, reading: Reading) -> Result<usize, Fault>
+    ensures is { placed first.entry.src.now result ≡ bare (items (read_by reading.check reading.depth) turns first.entry.place (rest_of first.entry)) }
+    ensures within { IfOk result (λ q. (first.entry.place < q) × (q ≤ length first.entry.src.now)) }
 {
-    let mut at = from;
+    let mut at = first;
     'elements: loop {
-        if let Some(end) = closing(src, at) {
+        if let Some(end) = closing(at) {
             return Ok(end);
         }
-        let element = read_object(src, at, reading)?;
-        at = element.end;
+        let element = read_object(at, reading)?;
+        at = at.to(element.end);
     }
 }
 
-// The entries of a dictionary from `from` on: the place behind the mark that closes it.
+// The entries of a dictionary from the first on: the place behind the mark that closes it.
 #[cycle(nested)]
-pub fn read_dictionary(src: &[u8], from: usize, reading: Reading) -> Result<usize, Fault>
-    requires { from ≤ length src.now }
-    ensures is { placed src.now result ≡ bare (entries_by reading.check (read_by reading.check reading.depth) turns no_entries from (drop from src.now)) }
-    ensures within { IfOk result (λ q. (from < q) × (q ≤ length src.now)) }
+pub fn read_dictionary(first: Lexer<'_>, reading: Reading) -> Result<usize, Fault>
+    ensures is { placed first.entry.src.now result ≡ bare (entries_by reading.check (read_by reading.check reading.depth) turns no_entries first.entry.place (rest_of first.entry)) }
+    ensures within { IfOk result (λ q. (first.entry.place < q) × (q ≤ length first.entry.src.now)) }
 {
-    let mut at = from;
+    let mut at = first;
     'entries: loop {
-        match next_in(src, at)? {
+        match next_in(at)? {
             Ahead::Closes { behind } => return Ok(behind),
             Ahead::Key {
                 name,
                 start,
                 behind,
             } => {
-                if reading.check && find_value(src, from, Some(at), name, reading.depth).is_some() {
+                if reading.check
+                    && find_value(first, Some(at.place), name, reading.depth).is_some()
+                {
                     return Err(Fault::met(Reason::KeyAgain, Layer::Object, start));
                 }
-                let value = read_value(src, behind, reading)?;
-                at = value.end;
+                let value = read_value(at.to(behind), reading)?;
+                at = at.to(value.end);
             }
         }
     }
 }
 
-// The value of the key that the name spells, among the entries from `from` on, up to the place `stop` or to the end.
+// The value of the key that the name spells, among the entries from the first on, up to the place `stop` or to the end.
 #[cycle(nested)]
-pub fn find_value(
-    src: &[u8],
-    from: usize,
-    stop: Option<usize>,
-    name: &[u8],
-    depth: u8,
-) -> Option<Value>
-    requires { from ≤ length src.now }
-    ensures { result ≡ find (read_by false depth) turns (spelled name.now) stop from (drop from src.now) }
+pub fn find_value(first: Lexer<'_>, stop: Option<usize>, name: &[u8], depth: u8) -> Option<Value>
+    ensures { result ≡ find (read_by false depth) turns (spelled name.now) stop first.entry.place (rest_of first.entry) }
 {
     let unchecked = Reading::unchecked(depth);
-    let mut at = from;
+    let mut at = first;
     'walk: loop {
-        if is_reached(stop, at) {
+        if is_reached(stop, at.place) {
             return None;
         }
         let Ahead::Key {
             name: key,
             behind,
             ..
-        } = next_in(src, at).ok()?
+        } = next_in(at).ok()?
         else {
             return None;
         };
-        let value = read_value(src, behind, unchecked).ok()?;
+        let value = read_value(at.to(behind), unchecked).ok()?;
         if same_name(name, key) {
             return Some(value);
         }
-        at = value.end;
+        at = at.to(value.end);
     }
 }

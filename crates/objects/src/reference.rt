@@ -1,10 +1,10 @@
 // The trial for a reference: behind an integer, a generation and `R`, or nothing.
-ghost use Rattle.std.specs.Prelude.{◌≡◌, ◌≤◌, length, if◌then◌else◌};
+ghost use Rattle.std.specs.Prelude.{◌≡◌, if◌then◌else◌};
 ghost use Rattle.objects.specs.Steps.{Takes, Tries};
 
 use crate::tokens::is_word;
 use lexer::reader::Lexer;
-use lexer::token::{Token, token_at};
+use lexer::token::Token;
 
 // Puts a place back where it was on every way out, unless what was tried for is found.
 struct Trial<'g> {
@@ -28,13 +28,11 @@ impl Drop for Trial<'_> {
     }
 }
 
-// The next token, if it can be read, and the place moves behind it. The guard holds the place and not the lexer, so `Lexer::next` cannot be called under it.
-fn take<'a>(src: &'a [u8], place: &mut usize) -> Option<Token<'a>>
-    requires { place.old ≤ length src.now }
-    ensures is { Takes src.now place.old place.new result }
-    ensures within { place.new ≤ length src.now }
+// The token that comes next, if it can be read, and a place moves behind it. The guard holds the place and not the lexer, so `Lexer::next` cannot be called under it.
+fn take<'a>(at: Lexer<'a>, place: &mut usize) -> Option<Token<'a>>
+    ensures { Takes at.entry.src.now at.entry.place place.new result }
 {
-    let found = token_at(src, *place).ok()?;
+    let found = at.token().ok()?;
     *place = found.to;
     Some(found.token)
 }
@@ -44,21 +42,20 @@ pub fn try_reference(lexer: &mut Lexer<'_>, number: u32) -> Option<u16>
     ensures is { Tries lexer.old.src.now number lexer.old.place lexer.new.place result }
     ensures src { lexer.new.src ≡ lexer.old.src }
 {
-    let src = lexer.src;
-    let back = lexer.place;
+    let start = *lexer;
     let mut trial = Trial {
         place: &mut lexer.place,
-        back,
+        back: start.place,
         found: false,
     };
-    let Token::Unsigned(second) = take(src, trial.place)? else {
+    let Token::Unsigned(second) = take(start, trial.place)? else {
         return None;
     };
     if number < 1 {
         return None;
     }
     let generation = u16::try_from(second).ok()?;
-    let mark = take(src, trial.place)?;
+    let mark = take(start.to(*trial.place), trial.place)?;
     if !is_word(mark, b"R") {
         return None;
     }

@@ -1,5 +1,5 @@
 // How an object starts.
-ghost use Rattle.std.specs.Prelude.{◌≡◌, ◌≤◌, length, pos};
+ghost use Rattle.std.specs.Prelude.{◌≡◌};
 ghost use Rattle.objects.specs.Steps.{Starts, Counts, word_shape};
 
 use crate::reference::try_reference;
@@ -9,7 +9,7 @@ use faults::fault::Fault;
 use faults::reason::Reason;
 use lexer::name::same_bytes;
 use lexer::reader::Lexer;
-use lexer::token::{Token, token_at};
+use lexer::token::Token;
 
 // How an object starts, with the place behind what was read of it.
 #[derive(Clone, Copy)]
@@ -37,12 +37,11 @@ fn word_shape(word: &[u8]) -> Option<Shape>
     }
 }
 
-// An integer without a sign, or the reference that it begins.
-fn whole_number(src: &[u8], number: u32, end: usize) -> Extent
-    requires { end ≤ length src.now }
-    ensures { Counts src.now number end result }
+// An integer without a sign, or the reference that it begins, from behind the integer on.
+fn whole_number(behind: Lexer<'_>, number: u32) -> Extent
+    ensures { Counts behind.entry.src.now number behind.entry.place result }
 {
-    let mut lexer = Lexer::at(src, end);
+    let mut lexer = behind;
     let shape = match try_reference(&mut lexer, number) {
         Some(generation) => Shape::Reference { number, generation },
         None => Shape::Integer(i64::from(number)),
@@ -54,13 +53,12 @@ fn whole_number(src: &[u8], number: u32, end: usize) -> Extent
 }
 
 // How the object starts that stands next.
-pub fn start_of(src: &[u8], from: usize) -> Result<Start, Fault>
-    requires { from ≤ length src.now }
-    ensures { Starts src.now from result }
+pub fn start_of(at: Lexer<'_>) -> Result<Start, Fault>
+    ensures { Starts at.entry.src.now at.entry.place result }
 {
-    let found = token_at(src, from)?;
+    let found = at.token()?;
     let shape = match found.token {
-        Token::Unsigned(n) => return Ok(Start::Whole(whole_number(src, n, found.to))),
+        Token::Unsigned(n) => return Ok(Start::Whole(whole_number(at.to(found.to), n))),
         Token::OpenArray => return Ok(Start::Array {
             mark: found.from,
             inside: found.to,

@@ -22,6 +22,3 @@ returns-in_err-frame-clause-is c =
     let e = moved_err _ _ _ _ moved c.in_err-frame.was in
     let is = rw e.1 at c.read_frame.ensures.is in
     rw z (fault_moved _ _ _ _ is e.2)
-
-try1 : goal.map_err-requires
-try1 c = let h : IfErr c.read_frame.result (λ f. f.place ≤ length c.args.src.now) = fault_within _ _ c.read_frame.ensures.is in search (rules, fault_within)

@@ -1,9 +1,9 @@
-use Rattle.std.proofs.Common.{◌+◌, ◌-◌, ◌*◌, ◌≤◌, false, cond, length, drop}
+use Rattle.std.proofs.Common.{◌≡◌, ◌+◌, ◌-◌, ◌*◌, ◌≤◌, false, cond, length}
 use Rattle.format.specs.Strings.{turns}
 use Rattle.format.specs.Objects.{items, no_entries}
 use Rattle.objects.specs.Extents.{read_by, entries_by, find}
 use Rattle.lexer.specs.Spelled.{spelled}
-use Rattle.objects.specs.Steps.{bare}
+use Rattle.objects.specs.Steps.{bare, rest_of}
 use Rattle.objects.proofs.Turns.{Elements, Entered, Walking}
 use Rattle.objects.proofs.read.+nested.Given as goal
 
@@ -24,24 +24,22 @@ decreases-read_object l = cond l.reading.check 1024 0 + 3 * l.reading.depth
 
 abbrev pub invariant-read_array-elements : goal.invariant-read_array-elements
 invariant-read_array-elements l =
-    (l.from ≤ l.at) × (l.at ≤ length l.src)
-    × Elements (read_by l.reading.check l.reading.depth) l.src l.at (bare (items (read_by l.reading.check l.reading.depth) turns l.from (drop l.from l.src)))
+    (l.first.place ≤ l.at.place) × (l.at.src.now ≡ l.first.src.now)
+    × Elements (read_by l.reading.check l.reading.depth) l.at.src.now l.at.place (bare (items (read_by l.reading.check l.reading.depth) turns l.first.place (rest_of l.first)))
 
 abbrev pub decreases-read_array-elements : goal.decreases-read_array-elements
-decreases-read_array-elements l = length l.src - l.at
+decreases-read_array-elements l = length l.at.src.now - l.at.place
 
 abbrev pub invariant-read_dictionary-entries : goal.invariant-read_dictionary-entries
 invariant-read_dictionary-entries l =
-    (l.from ≤ l.at) × (l.at ≤ length l.src)
-    × Entered l.reading.check l.reading.depth l.src l.from l.at (bare (entries_by l.reading.check (read_by l.reading.check l.reading.depth) turns no_entries l.from (drop l.from l.src)))
+    (l.first.place ≤ l.at.place) × (l.at.src.now ≡ l.first.src.now)
+    × Entered l.reading.check l.reading.depth l.at.src.now l.first.place l.at.place (bare (entries_by l.reading.check (read_by l.reading.check l.reading.depth) turns no_entries l.first.place (rest_of l.first)))
 
 abbrev pub decreases-read_dictionary-entries : goal.decreases-read_dictionary-entries
-decreases-read_dictionary-entries l = length l.src - l.at
+decreases-read_dictionary-entries l = length l.at.src.now - l.at.place
 
 abbrev pub invariant-find_value-walk : goal.invariant-find_value-walk
-invariant-find_value-walk l =
-    (l.from ≤ l.at) × (l.at ≤ length l.src)
-    × Walking (read_by false l.depth) l.src (spelled l.name) l.stop l.at (find (read_by false l.depth) turns (spelled l.name) l.stop l.from (drop l.from l.src))
+invariant-find_value-walk l = Walking (read_by false l.depth) l.at.src.now (spelled l.name) l.stop l.at.place (find (read_by false l.depth) turns (spelled l.name) l.stop l.first.place (rest_of l.first))
 
 abbrev pub decreases-find_value-walk : goal.decreases-find_value-walk
-decreases-find_value-walk l = length l.src - l.at
+decreases-find_value-walk l = length l.at.src.now - l.at.place

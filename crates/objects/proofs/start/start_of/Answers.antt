@@ -6,7 +6,9 @@ use Rattle.objects.proofs.Starts.{starts_none, starts_lone, starts_count, starts
 use Rattle.objects.proofs.start.start_of.Goals as goal
 
 pub returns-in-Unsigned : goal.returns-in-Unsigned
-returns-in-Unsigned c = let told = c.in_ok-found.ensures in starts_count _ _ _ told.is told.placed _ _ c.in-Unsigned.is c.whole_number.ensures
+returns-in-Unsigned c =
+    let told = c.in_ok-found.ensures in
+    starts_count _ _ _ told.is told.placed _ _ c.in-Unsigned.is (rw (c.to.ensures.src, c.to.ensures.place) at c.whole_number.ensures)
 
 pub returns-in-OpenArray : goal.returns-in-OpenArray
 returns-in-OpenArray c = let told = c.in_ok-found.ensures in starts_array _ _ _ told.is told.placed c.in-OpenArray.is

@@ -1,8 +1,5 @@
-use Rattle.objects.proofs.Streams.{eol_skipped, skipped_within}
+use Rattle.objects.proofs.Streams.{eol_skipped}
 use Rattle.objects.proofs.stream.skip_eol.Goals as goal
 
-pub returns : goal.returns
-returns c = record {
-  is = rw c.unwrap_or.ensures (eol_skipped _ _ _ c.line_end.ensures.is);
-  within = rw c.unwrap_or.ensures (skipped_within _ _ _ c.requires c.line_end.ensures.within);
-}
+pub returns-clause-is : goal.returns-clause-is
+returns-clause-is c = rw (c.to.ensures.src, c.to.ensures.place, c.unwrap_or.ensures) (eol_skipped _ _ _ c.line_end.ensures.is)
