@@ -26,3 +26,11 @@ row_lacks value part src p z e is why = rw is (record { is = why; within = tt })
 pub passes_from : (src : Bytes) (p q : ℕ) (r : Result ℕ Lack) → p ≤ q → PassesWithin src q r → PassesWithin src p r
 passes_from src p q (Ok x) h w = (omega (arith, w.0), w.1)
 passes_from src p q (Err e) h w = tt
+
+-- The same of a reader that stands there, by what `to` says of it.
+module _ {src S : Bytes} {p P : ℕ} (same : S ≡ src) (stands : P ≡ p) where
+  pub line_there : {part : ℕ → Bytes → Piece Unit} {r : Result ℕ Lack} → Passes part S P r → Passes part src p r
+  line_there {part} {r} read = let f : Passes part src p r = rw (same, stands) at read in f
+
+  pub row_there : {T A : Type 0} {value : T → A} {part : ℕ → Bytes → Piece A} {r : Result (T × ℕ) Lack} → Takes value part S P r → Takes value part src p r
+  row_there {value = value} {part = part} {r = r} read = let f : Takes value part src p r = rw (same, stands) at read in f
