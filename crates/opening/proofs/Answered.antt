@@ -1,5 +1,5 @@
 -- The fault of a line, by what the line lacks.
-use Rattle.std.proofs.Common.{◌≡◌, ℕ, ◌+◌, ◌<◌, ◌≤◌, length, drop, IfOk, Ok, Err, Result, sym, refl, ap, ◌∙◌, arith, length-drop}
+use Rattle.std.proofs.Common.{◌≡◌, ℕ, ◌+◌, ◌<◌, ◌≤◌, length, drop, IfOk, Ok, Err, IsErrAnd, Result, sym, refl, ap, ◌∙◌, arith, length-drop}
 use Rattle.faults.specs.declared.fault.Fault.{Fault}
 use Rattle.faults.specs.declared.reason.Reason.TheVariants.{BytesEnd}
 use Rattle.format.specs.Bytes.{Bytes, Got, ok, bad, then, end_of}
@@ -10,6 +10,7 @@ use Rattle.lexer.specs.declared.line.Lack.TheVariants.{Short, Misfit}
 use Rattle.opening.specs.Answers.{line_fault, piece_here, answered, passed_to, EndsWithin}
 use Rattle.opening.specs.Parts.{passed, taken, PassesWithin, TakesWithin, Passes, Takes, BothBelow}
 use Rattle.opening.specs.Readings.{got_by}
+use Rattle.opening.proofs.Readings.{exit_is}
 
 -- the window ends where its bytes from a place on end
 end_is : (src : Bytes) (p base : ℕ) → p ≤ length src → end_of (base + p) (drop p src) ≡ base + length src
@@ -32,6 +33,10 @@ then_on x k is was = ap (λ y. then y k) is ∙ was
 
 pub then_cut : {A B : Type 0} (x : Got A) (k : A → ℕ → Bytes → Got B) {f : Fault} → x ≡ bad f → then x k ≡ bad f
 then_cut x k is = ap (λ y. then y k) is
+
+-- the exit of a `?` behind a line that is refused
+pub passed_bad : (base : ℕ) (src : Bytes) (r : Result ℕ Fault) (f : Fault) → IsErrAnd r (λ y. y ≡ f) → {g : Got Unit} → g ≡ bad f → g ≡ passed_to base src r
+passed_bad base src r f exit is = is ∙ ap (passed_to base src) (sym (exit_is r f exit))
 
 passed_shown : (src : Bytes) (p base : ℕ) (r : Result ℕ Lack) → placed (base + p) (drop p src) (passed base src r) ≡ passed_to base src (answered (placed (base + p) (drop p src) (piece_here r)))
 unfolding placed

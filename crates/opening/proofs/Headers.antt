@@ -1,5 +1,5 @@
 -- The header, at the start of the bytes.
-use Rattle.std.proofs.Common.{◌≡◌, ℕ, suc, ◌+◌, ◌-◌, ◌<◌, ◌≤◌, Bool, false, ◌&&◌, eqb, leb, [], ◌∷◌, ◌++◌, length, get_or, take, Some, None, codes, Option, sym, refl, ap, ◌∙◌, suc-add, zero-add, arith, Bor, MatchOption}
+use Rattle.std.proofs.Common.{◌≡◌, ℕ, suc, ◌+◌, ◌-◌, ◌≤◌, Bool, false, eqb, [], ◌∷◌, ◌++◌, length, take, Some, None, codes, Option, sym, refl, ap, ◌∙◌, suc-add, zero-add, arith, Bor, MatchOption}
 use Rattle.format.specs.Bytes.{Bytes}
 use Rattle.format.specs.Frames.{behind}
 use Rattle.format.specs.Revisions.{version_fits, header_fits}

@@ -1,5 +1,4 @@
 use Rattle.std.proofs.Common.{◌≡◌, ◌+◌, ◌-◌, true, length, ap, ◌∙◌, arith}
-use Rattle.std.proofs.lemmas.List.{length-drop}
 use Rattle.std.proofs.lemmas.List.Elements.{All-same}
 use Rattle.std.proofs.lemmas.List.Sums.{suffix_len-le-length}
 use Rattle.format.specs.Bytes.{is_digit, value}
@@ -14,16 +13,12 @@ returns-then-found-eq0 c = back_unfit c.args.bytes.now c.digits_at_end-found.res
 pub overflow_sub-start : goal.overflow_sub-start
 overflow_sub-start c = omega (arith, c.digits_at_end-found.ensures, suffix_len-le-length is_digit c.args.bytes.now)
 
-pub number-requires : goal.number-requires
-number-requires c =
+pub number-requires-clause-digits : goal.number-requires-clause-digits
+number-requires-clause-digits c =
     let n = c.digits_at_end-found.result in
     let xs = c.args.bytes.now in
-    let r = rest_is xs (length xs - n) in
     let l : length xs - n + n ≡ length xs = omega (arith, c.digits_at_end-found.ensures, suffix_len-le-length is_digit xs) in
-    record {
-      few = rw r (simp length-drop (omega arith));
-      digits = All-same (λ x. is_digit x ≡ true) _ _ r (end_pass xs n (length xs - n) c.digits_at_end-found.ensures l);
-    }
+    All-same (λ x. is_digit x ≡ true) _ _ (rest_is xs (length xs - n)) (end_pass xs n (length xs - n) c.digits_at_end-found.ensures l)
 
 pub returns : goal.returns
 returns c =

@@ -3,15 +3,14 @@ use Rattle.format.specs.Lines.{exact, exact_line}
 use Rattle.opening.specs.Held.{rows_held}
 use Rattle.opening.proofs.Answered.{line_read, line_there}
 use Rattle.opening.proofs.Listing.{behind_none}
-use Rattle.opening.proofs.Readings.{exit_is, err_case, seen_ok, seen_bad}
+use Rattle.opening.proofs.Readings.{err_case, seen_ok, seen_bad}
 use Rattle.opening.proofs.SectionParts.{line_bad, subs_bad, word_bad, trailer_bad, tail_bad, whole}
 use Rattle.opening.proofs.section.read_section.Goals as goal
 
 pub returns-in_err-start : goal.returns-in_err-start
 returns-in_err-start c =
-    let z = exit_is c.from_residual.result c.in_err-start.field-0.0 c.from_residual.ensures.1 in
     let start = line_there refl c.new.ensures.src c.new.ensures.place (line_read (exact_line (codes "xref")) c.args.base c.new.result.src.now c.new.result.place _ c.exact_line.ensures _ c.in_err-start.ensures) in
-    err_case _ _ _ _ z (line_bad c.args.base c.args.src.now _ start.is)
+    err_case _ _ _ c.in_err-start.field-0.0 c.from_residual.ensures.1 (line_bad c.args.base c.args.src.now _ start.is)
 
 pub to-requires : goal.to-requires
 to-requires c =
@@ -22,19 +21,17 @@ read_subsections-requires c = record { few = rw (c.to.ensures.src ∙ c.new.ensu
 
 pub returns-in_err-subsections : goal.returns-in_err-subsections
 returns-in_err-subsections c =
-    let z = exit_is c.from_residual-in_err-subsections.result c.in_err-subsections.field-0.0 c.from_residual-in_err-subsections.ensures.1 in
     let start = line_there refl c.new.ensures.src c.new.ensures.place (line_read (exact_line (codes "xref")) c.args.base c.new.result.src.now c.new.result.place _ c.exact_line.ensures _ c.in_ok-start.ensures) in
     let e = rw (c.to.ensures.base, c.to.ensures.src ∙ c.new.ensures.src, c.to.ensures.place) at c.in_err-subsections.ensures.is in
-    err_case _ _ _ _ z (subs_bad c.args.base c.args.src.now c.in_ok-start.start start.is _ (seen_bad _ _ e))
+    err_case _ _ _ c.in_err-subsections.field-0.0 c.from_residual-in_err-subsections.ensures.1 (subs_bad c.args.base c.args.src.now c.in_ok-start.start start.is _ (seen_bad _ _ e))
 
 pub returns-in_err-word_end : goal.returns-in_err-word_end
 returns-in_err-word_end c =
-    let z = exit_is c.from_residual-in_err-word_end.result c.in_err-word_end.field-0.0 c.from_residual-in_err-word_end.ensures.1 in
     let start = line_there refl c.new.ensures.src c.new.ensures.place (line_read (exact_line (codes "xref")) c.args.base c.new.result.src.now c.new.result.place _ c.exact_line.ensures _ c.in_ok-start.ensures) in
     let subs = seen_ok _ _ (rw (c.to.ensures.base, c.to.ensures.src ∙ c.new.ensures.src, c.to.ensures.place) at c.in_ok-subsections.ensures.is) in
     let q = c.in_ok-subsections.subsections.«end» in
     let word = line_there c.to-word.ensures.base (c.to-word.ensures.src ∙ c.new.ensures.src) c.to-word.ensures.place (line_read (exact (codes "trailer")) c.to-word.result.base c.to-word.result.at.src.now c.to-word.result.at.place _ c.exact.ensures _ c.in_err-word_end.ensures) in
-    err_case _ _ _ _ z (word_bad c.args.base c.args.src.now c.in_ok-start.start start.is subs.0 q subs.1 _ word.is)
+    err_case _ _ _ c.in_err-word_end.field-0.0 c.from_residual-in_err-word_end.ensures.1 (word_bad c.args.base c.args.src.now c.in_ok-start.start start.is subs.0 q subs.1 _ word.is)
 
 pub dictionary_at-requires : goal.dictionary_at-requires
 dictionary_at-requires c =
@@ -43,16 +40,14 @@ dictionary_at-requires c =
 
 pub returns-in_err-dictionary : goal.returns-in_err-dictionary
 returns-in_err-dictionary c =
-    let z = exit_is c.from_residual-in_err-dictionary.result c.in_err-dictionary.field-0.0 c.from_residual-in_err-dictionary.ensures.1 in
     let start = line_there refl c.new.ensures.src c.new.ensures.place (line_read (exact_line (codes "xref")) c.args.base c.new.result.src.now c.new.result.place _ c.exact_line.ensures _ c.in_ok-start.ensures) in
     let subs = seen_ok _ _ (rw (c.to.ensures.base, c.to.ensures.src ∙ c.new.ensures.src, c.to.ensures.place) at c.in_ok-subsections.ensures.is) in
     let q = c.in_ok-subsections.subsections.«end» in
     let word = line_there c.to-word.ensures.base (c.to-word.ensures.src ∙ c.new.ensures.src) c.to-word.ensures.place (line_read (exact (codes "trailer")) c.to-word.result.base c.to-word.result.at.src.now c.to-word.result.at.place _ c.exact.ensures _ c.in_ok-word_end.ensures) in
-    err_case _ _ _ _ z (trailer_bad c.args.base c.args.src.now c.in_ok-start.start start.is subs.0 q subs.1 c.in_ok-word_end.word_end word.is _ c.in_err-dictionary.ensures)
+    err_case _ _ _ c.in_err-dictionary.field-0.0 c.from_residual-in_err-dictionary.ensures.1 (trailer_bad c.args.base c.args.src.now c.in_ok-start.start start.is subs.0 q subs.1 c.in_ok-word_end.word_end word.is _ c.in_err-dictionary.ensures)
 
 pub returns-in_err-end : goal.returns-in_err-end
 returns-in_err-end c =
-    let z = exit_is c.from_residual-in_err-end.result c.in_err-end.field-0.0 c.from_residual-in_err-end.ensures.1 in
     let start = line_there refl c.new.ensures.src c.new.ensures.place (line_read (exact_line (codes "xref")) c.args.base c.new.result.src.now c.new.result.place _ c.exact_line.ensures _ c.in_ok-start.ensures) in
     let subs = seen_ok _ _ (rw (c.to.ensures.base, c.to.ensures.src ∙ c.new.ensures.src, c.to.ensures.place) at c.in_ok-subsections.ensures.is) in
     let q = c.in_ok-subsections.subsections.«end» in
@@ -60,7 +55,7 @@ returns-in_err-end c =
     let d = c.in_ok-dictionary.ensures in
     let space = rw (c.to-2.ensures.src ∙ c.new.ensures.src, c.to-2.ensures.place) at c.skip_space-tail_start.ensures.is in
     let e = rw (c.to-3.ensures.base, c.to-3.ensures.src ∙ c.new.ensures.src, c.to-3.ensures.place) at c.in_err-end.ensures.is in
-    err_case _ _ _ _ z (tail_bad c.args.base c.args.src.now c.in_ok-start.start start.is subs.0 q subs.1 c.in_ok-word_end.word_end word.is _ _ _ d.tree d.trailer space _ e)
+    err_case _ _ _ c.in_err-end.field-0.0 c.from_residual-in_err-end.ensures.1 (tail_bad c.args.base c.args.src.now c.in_ok-start.start start.is subs.0 q subs.1 c.in_ok-word_end.word_end word.is _ _ _ d.tree d.trailer space _ e)
 
 pub returns : goal.returns
 returns c =

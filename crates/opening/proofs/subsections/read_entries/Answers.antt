@@ -4,19 +4,14 @@ use Rattle.format.specs.Lines.{slot}
 use Rattle.opening.specs.Held.{rows_held}
 use Rattle.opening.proofs.Answered.{row_read}
 use Rattle.opening.proofs.Listing.{entry_long, entries_more, entries_bad, entries_all}
-use Rattle.opening.proofs.Readings.{exit_is, reads_bad, made_bad}
+use Rattle.opening.proofs.Readings.{reads_bad}
 use Rattle.opening.proofs.subsections.read_entries.Goals as goal
 
-pub returns-in_err-entry : goal.returns-in_err-entry
-returns-in_err-entry c =
-    let z = exit_is c.from_residual.result c.in_err-entry.field-0.0 c.from_residual.ensures.1 in
+pub returns-in_err-entry-clause-is : goal.returns-in_err-entry-clause-is
+returns-in_err-entry-clause-is c =
     let line = c.loop-i.line in
     let b = row_read slot_of slot line.base line.at.src.now line.at.place _ c.entry_at.ensures _ c.in_err-entry.ensures in
-    record {
-      is = reads_bad _ _ _ _ _ _ _ _ _ z (entries_bad line.at.src.now line.base line.at.place c.args.count c.args.first c.loop-i.i (rows_held c.loop-i.rows) c.loop-i.invariant.listed _ (omega arith) b.is);
-      held = made_bad _ _ _ z;
-      long = made_bad _ _ _ z;
-    }
+    reads_bad c.in_err-entry.field-0.0 c.from_residual.ensures.1 (entries_bad line.at.src.now line.base line.at.place c.args.count c.args.first c.loop-i.i (rows_held c.loop-i.rows) c.loop-i.invariant.listed _ (omega arith) b.is)
 
 pub push-requires : goal.push-requires
 push-requires c =
@@ -45,15 +40,11 @@ loop-i-preserved c =
       listed = rw (to.base, to.src, to.place) (entries_more line.at.src.now line.base line.at.place c.args.count c.args.first c.loop-i.i (rows_held c.loop-i.rows) c.loop-i.invariant.listed c.in_ok-entry.entry c.in_ok-entry.end _ _ (omega arith) b.is refl e);
     }
 
-pub returns : goal.returns
-returns c =
+pub returns-clause-is : goal.returns-clause-is
+returns-clause-is c =
     let line = c.loop-i.line in
     let i = c.loop-i.invariant in
     record {
-      is = record {
-        is = rw (i.base, i.src) at (entries_all line.at.src.now line.base line.at.place c.args.count c.args.first c.loop-i.i (rows_held c.loop-i.rows) i.listed (omega arith));
-        within = omega (arith, i.place, ap length i.src);
-      };
-      held = i.held;
-      long = omega (arith, i.place);
+      is = rw (i.base, i.src) at (entries_all line.at.src.now line.base line.at.place c.args.count c.args.first c.loop-i.i (rows_held c.loop-i.rows) i.listed (omega arith));
+      within = omega (arith, i.place, ap length i.src);
     }

@@ -2,7 +2,7 @@ use Rattle.std.proofs.Common.{◌≡◌, suc, ◌+◌, ◌-◌, length, drop, sy
 use Rattle.format.specs.Strings.{turns}
 use Rattle.opening.specs.Held.{listed_by}
 use Rattle.opening.proofs.AllSubs.{subs_end, subs_bad, subs_more}
-use Rattle.opening.proofs.Readings.{exit_is, reads_bad}
+use Rattle.opening.proofs.Readings.{reads_bad}
 use Rattle.opening.proofs.subsections.read_more.Goals as goal
 
 pub loop-line-init : goal.loop-line-init
@@ -18,11 +18,10 @@ loop-line-init c = record {
 
 pub returns-in_err-one : goal.returns-in_err-one
 returns-in_err-one c =
-    let z = exit_is c.from_residual.result c.in_err-one.field-0.0 c.from_residual.ensures.1 in
     let line = c.loop-line.line in
     let i = c.loop-line.invariant in
     let k : i.turn ≡ suc (i.turn - 1) = omega (arith, i.enough) in
-    reads_bad _ _ _ _ _ _ _ _ _ z
+    reads_bad c.in_err-one.field-0.0 c.from_residual.ensures.1
     (subs_bad i.turn (i.turn - 1) c.loop-line.next (line.base + line.at.place) (drop line.at.place line.at.src.now) (listed_by c.loop-line.rows) i.listing k
     (sym c.loop-line-test.ensures) _ c.in_err-one.ensures.is.is)
 

@@ -1,13 +1,12 @@
 use Rattle.std.proofs.Common.{◌+◌, drop, arith}
 use Rattle.opening.proofs.AllSubs.{all_first_bad, all_bad, all_read}
-use Rattle.opening.proofs.Readings.{exit_is, reads_bad}
+use Rattle.opening.proofs.Readings.{reads_bad}
 use Rattle.opening.proofs.subsections.read_subsections.Goals as goal
 
 pub returns-in_err-one : goal.returns-in_err-one
 returns-in_err-one c =
-    let z = exit_is c.from_residual.result c.in_err-one.field-0.0 c.from_residual.ensures.1 in
     let view = c.args.view in
-    reads_bad _ _ _ _ _ _ _ _ _ z (all_first_bad (view.base + view.at.place) (drop view.at.place view.at.src.now) _ _ c.in_err-one.ensures.is.is)
+    reads_bad c.in_err-one.field-0.0 c.from_residual.ensures.1 (all_first_bad (view.base + view.at.place) (drop view.at.place view.at.src.now) _ _ c.in_err-one.ensures.is.is)
 
 pub read_more-requires : goal.read_more-requires
 read_more-requires c =
@@ -16,11 +15,10 @@ read_more-requires c =
 
 pub returns-in_err-end : goal.returns-in_err-end
 returns-in_err-end c =
-    let z = exit_is c.from_residual-in_err-end.result c.in_err-end.field-0.0 c.from_residual-in_err-end.ensures.1 in
     let view = c.args.view in
     let to = c.to-behind.ensures in
     let e = rw (to.base, to.src, to.place) at c.in_err-end.ensures.is in
-    reads_bad _ _ _ _ _ _ _ _ _ z (all_bad (view.base + view.at.place) (drop view.at.place view.at.src.now) _ _ _ _ _ _ c.in_ok-one.ensures.is.is _ e)
+    reads_bad c.in_err-end.field-0.0 c.from_residual-in_err-end.ensures.1 (all_bad (view.base + view.at.place) (drop view.at.place view.at.src.now) _ _ _ _ _ _ c.in_ok-one.ensures.is.is _ e)
 
 pub returns : goal.returns
 returns c =
