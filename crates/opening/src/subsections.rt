@@ -73,7 +73,7 @@ fn read_subsection(view: View<'_>, low: u64, rows: &mut Rows) -> Result<Subsecti
 fn begins_digit(at: Lexer<'_>) -> bool
     ensures { result ≡ begins_digit (drop at.entry.place at.entry.src.now) }
 {
-    at.place < at.src.len() && is_digit(at.src[at.place])
+    at.src.get(at.place).is_some_and(|b| is_digit(*b))
 }
 
 // The subsections behind the first one, from the number `low` up: the place behind them.
