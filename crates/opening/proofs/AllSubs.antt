@@ -1,8 +1,9 @@
 -- Subsections, one after another.
-use Rattle.std.proofs.Common.{◌≡◌, ℕ, zero, suc, ◌+◌, ◌<◌, ◌≤◌, Bool, true, false, not, ◌&&◌, eqb, List, [], ◌∷◌, ◌++◌, length, get_or, drop, sym, refl, ap, ◌∙◌, append_assoc, append-nil, arith, lit<}
+use Rattle.std.proofs.Common.{◌≡◌, ℕ, zero, suc, ◌+◌, ◌<◌, Bool, true, false, not, ◌&&◌, eqb, List, [], ◌∷◌, ◌++◌, drop, Some, None, Option, sym, refl, ap, ◌∙◌, append_assoc, append-nil, arith, lit<, Bor, MatchOption}
 use mathlib.Core.Bool.{and-true, and-false}
 use Rattle.faults.specs.declared.fault.Fault.{Fault}
-use Rattle.std.proofs.lemmas.List.{at_drop_all}
+use Rattle.std.specs.Slice.{IsItemAt}
+use Rattle.std.proofs.lemmas.List.{at_drop_all, at_drop_more}
 use Rattle.format.specs.Bytes.{Bytes, Got, ok, bad, then, is_digit}
 use Rattle.format.specs.Revisions.{one_from_zero}
 use Rattle.format.specs.Sections.{Listed, Sub, sub, begins_digit, subs, all_subs, listed}
@@ -11,17 +12,13 @@ use Rattle.locality.proofs.Cases.{cases}
 use Rattle.sections.proofs.Local.{then_ok}
 use Rattle.opening.specs.Readings.{seen_as}
 use Rattle.opening.specs.Subsections.{sub_behind, all_behind}
-use Rattle.opening.proofs.Places.{at_place}
 use Rattle.opening.proofs.Readings.{seen_ok, seen_bad}
 
--- what stands at a place
-pub digit_next : (src : Bytes) (p : ℕ) → p < length src → begins_digit (drop p src) ≡ is_digit (get_or src p 0)
+-- what stands at a place, where anything does
+pub digit_there : (src : Bytes) (p : ℕ) (o : Option (Bor ℕ)) (b : Bool) → IsItemAt src p o → MatchOption o (b ≡ false) (λ x. b ≡ is_digit x.now) → b ≡ begins_digit (drop p src)
 unfolding begins_digit
-digit_next src p h = at_place begins_digit src p h
-
-pub digit_none : (src : Bytes) (p : ℕ) → length src ≤ p → begins_digit (drop p src) ≡ false
-unfolding begins_digit
-digit_none src p h = at_drop_all begins_digit src p h
+digit_there src p None b item e = e ∙ sym (at_drop_all begins_digit src p item.3)
+digit_there src p (Some x) b item e = e ∙ ap is_digit item.1 ∙ sym (at_drop_more begins_digit src p x.now item.3.0)
 
 -- what stands behind a subsection, with n turns left
 abbrev on_sub : ℕ → Sub → ℕ → Bytes → Got (List Sub)

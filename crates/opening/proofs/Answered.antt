@@ -1,5 +1,5 @@
 -- The fault of a line, by what the line lacks.
-use Rattle.std.proofs.Common.{◌≡◌, ℕ, ◌+◌, ◌<◌, ◌≤◌, length, drop, IfOk, Ok, Err, Result, sym, refl, ap, ◌∙◌, arith, length-drop}
+use Rattle.std.proofs.Common.{◌≡◌, ℕ, ◌+◌, ◌<◌, ◌≤◌, length, drop, IfOk, Ok, Err, IsErrAnd, Result, sym, refl, ap, ◌∙◌, arith, length-drop}
 use Rattle.faults.specs.declared.fault.Fault.{Fault}
 use Rattle.faults.specs.declared.reason.Reason.TheVariants.{BytesEnd}
 use Rattle.format.specs.Bytes.{Bytes, Got, ok, bad, then, end_of}
@@ -10,6 +10,7 @@ use Rattle.lexer.specs.declared.line.Lack.TheVariants.{Short, Misfit}
 use Rattle.opening.specs.Answers.{line_fault, piece_here, answered, passed_to, EndsWithin}
 use Rattle.opening.specs.Parts.{passed, taken, PassesWithin, TakesWithin, Passes, Takes, BothBelow}
 use Rattle.opening.specs.Readings.{got_by}
+use Rattle.opening.proofs.Readings.{exit_is}
 
 -- the window ends where its bytes from a place on end
 end_is : (src : Bytes) (p base : ℕ) → p ≤ length src → end_of (base + p) (drop p src) ≡ base + length src
@@ -33,6 +34,10 @@ then_on x k is was = ap (λ y. then y k) is ∙ was
 pub then_cut : {A B : Type 0} (x : Got A) (k : A → ℕ → Bytes → Got B) {f : Fault} → x ≡ bad f → then x k ≡ bad f
 then_cut x k is = ap (λ y. then y k) is
 
+-- the exit of a `?` behind a line that is refused
+pub passed_bad : (base : ℕ) (src : Bytes) (r : Result ℕ Fault) (f : Fault) → IsErrAnd r (λ y. y ≡ f) → {g : Got Unit} → g ≡ bad f → g ≡ passed_to base src r
+passed_bad base src r f exit is = is ∙ ap (passed_to base src) (sym (exit_is r f exit))
+
 passed_shown : (src : Bytes) (p base : ℕ) (r : Result ℕ Lack) → placed (base + p) (drop p src) (passed base src r) ≡ passed_to base src (answered (placed (base + p) (drop p src) (piece_here r)))
 unfolding placed
 passed_shown src p base (Ok q) = refl
@@ -45,13 +50,20 @@ ends_within src p base (Ok q) w = w
 ends_within src p base (Err Short) w = tt
 ends_within src p base (Err Misfit) w = tt
 
--- the line that starts at p was read, and its fault placed
-module _ (part : ℕ → Bytes → Piece Unit) (src : Bytes) (p base : ℕ) (r : Result ℕ Lack) (read : Passes part src p r) (z : Result ℕ Fault) (is : z ≡ answered (placed (base + p) (drop p src) (piece_here r))) where
-  pub line_placed : placed (base + p) (drop p src) (part (base + p) (drop p src)) ≡ passed_to base src z
-  line_placed = ap (placed (base + p) (drop p src)) (read.is base) ∙ passed_shown src p base r ∙ ap (passed_to base src) (sym is)
+-- a line that starts at p was read, and its fault placed
+pub record LineRead (part : ℕ → Bytes → Piece Unit) (base : ℕ) (src : Bytes) (p : ℕ) (z : Result ℕ Fault) : Type 0 where
+  pub is : placed (base + p) (drop p src) (part (base + p) (drop p src)) ≡ passed_to base src z
+  pub within : EndsWithin src p z
 
-  pub line_within : EndsWithin src p z
-  line_within = rw is (ends_within src p base r read.within)
+pub line_read : (part : ℕ → Bytes → Piece Unit) (base : ℕ) (src : Bytes) (p : ℕ) (r : Result ℕ Lack) → Passes part src p r → (z : Result ℕ Fault) → z ≡ answered (placed (base + p) (drop p src) (piece_here r)) → LineRead part base src p z
+line_read part base src p r read z is = record {
+  is = ap (placed (base + p) (drop p src)) (read.is base) ∙ passed_shown src p base r ∙ ap (passed_to base src) (sym is);
+  within = rw is (ends_within src p base r read.within);
+}
+
+-- the same of a view that stands there, by what `to` says of it
+pub line_there : {part : ℕ → Bytes → Piece Unit} {B base : ℕ} {S src : Bytes} {P p : ℕ} {z : Result ℕ Fault} → B ≡ base → S ≡ src → P ≡ p → LineRead part B S P z → LineRead part base src p z
+line_there {part} {base = base} {src = src} {p = p} {z = z} b s t read = let f : LineRead part base src p z = rw (b, s, t) at read in f
 
 -- what ends from q on ends from p on, where p is not behind q
 pub ends_from : (src : Bytes) (p q : ℕ) (z : Result ℕ Fault) → p ≤ q → EndsWithin src q z → EndsWithin src p z
@@ -71,12 +83,15 @@ taken_within src p base (Err Short) w = tt
 taken_within src p base (Err Misfit) w = tt
 
 -- the same of a line or an entry with a value
-module _ {T A : Type 0} (value : T → A) (part : ℕ → Bytes → Piece A) (src : Bytes) (p base : ℕ) (r : Result (T × ℕ) Lack) (read : Takes value part src p r) (z : Result (T × ℕ) Fault) (is : z ≡ answered (placed (base + p) (drop p src) (piece_here r))) where
-  pub row_placed : placed (base + p) (drop p src) (part (base + p) (drop p src)) ≡ got_by (λ x. value x.0) (λ x. x.1) base src z
-  row_placed = ap (placed (base + p) (drop p src)) (read.is base) ∙ taken_shown value src p base r ∙ ap (got_by (λ x. value x.0) (λ x. x.1) base src) (sym is)
+pub record RowRead {T A : Type 0} (value : T → A) (part : ℕ → Bytes → Piece A) (base : ℕ) (src : Bytes) (p : ℕ) (z : Result (T × ℕ) Fault) : Type 0 where
+  pub is : placed (base + p) (drop p src) (part (base + p) (drop p src)) ≡ got_by (λ x. value x.0) (λ x. x.1) base src z
+  pub within : IfOk z (λ x. (p ≤ x.1) × (x.1 ≤ length src))
 
-  pub row_within : IfOk z (λ x. (p ≤ x.1) × (x.1 ≤ length src))
-  row_within = rw is (taken_within src p base r read.within)
+pub row_read : {T A : Type 0} (value : T → A) (part : ℕ → Bytes → Piece A) (base : ℕ) (src : Bytes) (p : ℕ) (r : Result (T × ℕ) Lack) → Takes value part src p r → (z : Result (T × ℕ) Fault) → z ≡ answered (placed (base + p) (drop p src) (piece_here r)) → RowRead value part base src p z
+row_read value part base src p r read z is = record {
+  is = ap (placed (base + p) (drop p src)) (read.is base) ∙ taken_shown value src p base r ∙ ap (got_by (λ x. value x.0) (λ x. x.1) base src) (sym is);
+  within = rw is (taken_within src p base r read.within);
+}
 
 -- what was answered was the part's value
 pub part_was : {T : Type 0} (p : ℕ) (xs : Bytes) (r : Result T Lack) (x : T) → Ok x ≡ answered (placed p xs (piece_here r)) → r ≡ Ok x

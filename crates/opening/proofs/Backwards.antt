@@ -1,34 +1,17 @@
--- A window read backwards, by what stands before a place.
-use Rattle.std.proofs.Common.{◌≡◌, ℕ, suc, ◌+◌, ◌-◌, ◌<◌, ◌≤◌, Bool, true, false, ◌&&◌, eqb, leb, ◌⊎◌, [], ◌∷◌, ◌++◌, reverse, length, get_or, take, drop, Some, None, Option, sym, refl, ap, ◌∙◌, inl, inr, append_assoc, append-nil, arith}
+-- Bytes read backwards, by what they end with.
+use Rattle.std.proofs.Common.{◌≡◌, ℕ, suc, ◌+◌, ◌-◌, ◌<◌, ◌≤◌, Bool, true, false, ◌&&◌, eqb, leb, ◌⊎◌, [], ◌∷◌, ◌++◌, reverse, length, take, drop, Some, None, Option, sym, refl, ap, ◌∙◌, inl, inr, append_assoc, append-nil, arith, Bor, MatchOption}
 use mathlib.Core.List.{reverse_aux-eq}
 use Rattle.std.specs.List.{suffix_len}
-use Rattle.std.proofs.lemmas.List.{take_more, take_all, take-take, take-append-le, length-append, length-take, reverse-append, reverse-reverse}
+use Rattle.std.specs.Option.{option_map}
+use Rattle.std.proofs.lemmas.List.{reverse-append, reverse-reverse}
 use Rattle.std.proofs.lemmas.List.Sums.{suffix_len-le-length}
 use Rattle.std.proofs.lemmas.Option.{none-some}
-use Rattle.std.proofs.lemmas.Bool.{eq-eqb, ne_eqb, eqb-true, le-leb, lt-leb, and_left, and_right, and_from}
+use Rattle.std.proofs.lemmas.Bool.{eq-eqb, eqb-true, le-leb, lt-leb, and_left, and_right, and_from}
 use Rattle.format.specs.Bytes.{Bytes, is_digit, span, value}
 use Rattle.format.specs.Frames.{behind}
 use Rattle.format.specs.Sections.{back_eol, on, back_digits}
 use Rattle.locality.proofs.Cases.{cases}
-use Rattle.opening.specs.Backwards.{before}
 use Rattle.opening.proofs.Runs.{span_on, span_stops, span_none, span_by, cut_at, last_taken, last_dropped}
-
-module _ (src : Bytes) where
-  before_more : (i : ℕ) → i < length src → before src (i + 1) ≡ get_or src i 0 ∷ before src i
-  unfolding before
-  before_more i h = ap reverse (take_more src i 0 h) ∙ reverse-append (take i src) (get_or src i 0 ∷ [])
-
-  -- the last byte before a place
-  pub before_back : (at : ℕ) → 0 < at → at ≤ length src → before src at ≡ get_or src (at - 1) 0 ∷ before src (at - 1)
-  before_back at a h = let e : at ≡ at - 1 + 1 = omega arith in ap (before src) e ∙ before_more (at - 1) (omega arith)
-
-  pub before_none : (at : ℕ) → at ≡ 0 → before src at ≡ []
-  unfolding before
-  before_none at e = rw e
-
-  pub before_all : before src (length src) ≡ reverse src
-  unfolding before
-  before_all = ap reverse (take_all (length src) src (omega arith))
 
 -- An end of line backwards.
 module _ (x : ℕ) where
@@ -56,33 +39,39 @@ pub back_none : back_eol [] ≡ None
 unfolding back_eol
 back_none = refl
 
-module _ (src : Bytes) (at : ℕ) where
-  pub eol_none : at ≡ 0 → back_eol (before src at) ≡ None
-  eol_none e = ap back_eol (before_none src at e) ∙ back_none
+-- the last byte, and those before it
+last_byte : (bytes : Bytes) (y : ℕ) (ys : Bytes) → reverse bytes ≡ y ∷ ys → bytes ≡ reverse ys ++ (y ∷ [])
+last_byte bytes y ys e = sym (reverse-reverse bytes) ∙ ap reverse e ∙ reverse_aux-eq ys (y ∷ [])
 
-  module _ (a : 0 < at) (h : at ≤ length src) where
-    pub eol_cr : get_or src (at - 1) 0 ≡ 13 → back_eol (before src at) ≡ Some (before src (at - 1))
-    eol_cr e = ap back_eol (before_back src at a h) ∙ back_cr _ _ (ne_eqb _ _ (λ f. omega arith)) (eq-eqb _ _ e)
+-- The bytes end with an end of line, or with none.
+module _ (bytes : Bytes) where
+  pub ends_crlf : (front : Bytes) → bytes ≡ front ++ (13 ∷ 10 ∷ []) → Some (reverse front) ≡ back_eol (reverse bytes)
+  ends_crlf front e = sym (ap (λ l. back_eol (reverse l)) e ∙ ap back_eol (reverse-append front (13 ∷ 10 ∷ [])) ∙ back_crlf 10 13 (reverse front) refl refl)
 
-    pub eol_other : (get_or src (at - 1) 0 ≡ 13 → ⊥) → (get_or src (at - 1) 0 ≡ 10 → ⊥) → back_eol (before src at) ≡ None
-    eol_other e f = ap back_eol (before_back src at a h) ∙ back_other _ _ (ne_eqb _ _ f) (ne_eqb _ _ e)
+  pub ends_lf : (front : Bytes) → bytes ≡ front ++ (10 ∷ []) → ((f : Bytes) → bytes ≡ f ++ (13 ∷ 10 ∷ []) → ⊥) → Some (reverse front) ≡ back_eol (reverse bytes)
+  ends_lf front e un = sym (ap (λ l. back_eol (reverse l)) e ∙ ap back_eol (reverse-append front (10 ∷ [])) ∙ at (reverse front) refl) where
+    at : (r : Bytes) → reverse front ≡ r → back_eol (10 ∷ r) ≡ Some r
+    at [] w = back_lf_last 10 refl
+    at (y ∷ ys) w =
+        cases (eqb y 13)
+        (λ c.
+        let z : y ≡ 13 = eqb-true y 13 c in
+        absurd (un (reverse ys) (e ∙ ap (λ l. l ++ (10 ∷ [])) (last_byte front y ys w) ∙ append_assoc (reverse ys) (y ∷ []) (10 ∷ []) ∙ ap (λ k. reverse ys ++ (k ∷ 10 ∷ [])) z)))
+        (λ c. back_lf 10 y ys refl c)
 
-    pub eol_lf_first : at ≡ 1 → get_or src (at - 1) 0 ≡ 10 → back_eol (before src at) ≡ Some (before src (at - 1))
-    eol_lf_first i e =
-        let z : before src (at - 1) ≡ [] = before_none src (at - 1) (omega arith) in
-        ap back_eol (before_back src at a h ∙ ap (λ r. get_or src (at - 1) 0 ∷ r) z) ∙ back_lf_last _ (eq-eqb _ _ e) ∙ ap Some (sym z)
-
-    two : (at ≡ 1 → ⊥) → before src (at - 1) ≡ get_or src (at - 2) 0 ∷ before src (at - 2)
-    two n = let e : at - 1 - 1 ≡ at - 2 = omega arith in
-        before_back src (at - 1) (omega arith) (omega arith) ∙ ap (λ k. get_or src k 0 ∷ before src k) e
-
-    pub eol_crlf : (at ≡ 1 → ⊥) → get_or src (at - 1) 0 ≡ 10 → get_or src (at - 2) 0 ≡ 13 → back_eol (before src at) ≡ Some (before src (at - 2))
-    eol_crlf n e f =
-        ap back_eol (before_back src at a h ∙ ap (λ r. get_or src (at - 1) 0 ∷ r) (two n)) ∙ back_crlf _ _ _ (eq-eqb _ _ e) (eq-eqb _ _ f)
-
-    pub eol_lf : (at ≡ 1 → ⊥) → get_or src (at - 1) 0 ≡ 10 → (get_or src (at - 2) 0 ≡ 13 → ⊥) → back_eol (before src at) ≡ Some (before src (at - 1))
-    eol_lf n e f =
-        ap back_eol (before_back src at a h ∙ ap (λ r. get_or src (at - 1) 0 ∷ r) (two n)) ∙ back_lf _ _ _ (eq-eqb _ _ e) (ne_eqb _ _ f) ∙ ap Some (sym (two n))
+  pub ends_cr : (r : Option (Bor Bytes)) → ((f : Bytes) → bytes ≡ f ++ (10 ∷ []) → ⊥) → MatchOption r ((f : Bytes) → bytes ≡ f ++ (13 ∷ []) → ⊥) (λ x. bytes ≡ x.now ++ (13 ∷ [])) → option_map (λ x. reverse x.now) r ≡ back_eol (reverse bytes)
+  ends_cr (Some x) un is = sym (ap (λ l. back_eol (reverse l)) is ∙ ap back_eol (reverse-append x.now (13 ∷ [])) ∙ back_cr 13 (reverse x.now) refl refl)
+  ends_cr None un nor = sym (at (reverse bytes) refl) where
+    at : (r : Bytes) → reverse bytes ≡ r → back_eol r ≡ None
+    at [] w = back_none
+    at (y ∷ ys) w =
+        let l = last_byte bytes y ys w in
+        cases (eqb y 10)
+        (λ c. let z : y ≡ 10 = eqb-true y 10 c in absurd (un (reverse ys) (l ∙ ap (λ k. reverse ys ++ (k ∷ [])) z)))
+        (λ c.
+        cases (eqb y 13)
+        (λ d. let z : y ≡ 13 = eqb-true y 13 d in absurd (nor (reverse ys) (l ∙ ap (λ k. reverse ys ++ (k ∷ [])) z)))
+        (λ d. back_other y ys c d))
 
 -- A word backwards.
 pub behind_all : (xs : Bytes) → behind [] xs ≡ Some xs
@@ -123,25 +112,13 @@ behind_other w xs h = go (behind w xs) refl where
   go None e = refl
   go (Some ys) e = absurd (h ys (behind_is w xs ys e))
 
--- the bytes before a place end with a word, or they do not
-module _ (src word : Bytes) (at : ℕ) where
-  pub word_before : (front : Bytes) → take at src ≡ front ++ word → at ≤ length src → behind (reverse word) (before src at) ≡ Some (before src (length front))
-  unfolding before
-  word_before front e h =
-      let l : length front ≤ at = (let q = ap length e ∙ length-append front word in let r = length-take at src in omega arith) in
-      let f : take (length front) src ≡ front =
-      sym (take-take (length front) at src l) ∙ ap (take (length front)) e ∙ take-append-le (length front) front word (omega arith) ∙ take_all (length front) front (omega arith) in
-      ap (λ xs. behind (reverse word) (reverse xs)) e
-      ∙ ap (behind (reverse word)) (reverse-append front word)
-      ∙ behind_front (reverse word) (reverse front)
-      ∙ ap (λ xs. Some (reverse xs)) (sym f)
-
-  pub word_not_before : ((front : Bytes) → take at src ≡ front ++ word → ⊥) → behind (reverse word) (before src at) ≡ None
-  unfolding before
-  word_not_before h =
-      behind_other (reverse word) (reverse (take at src))
-      (λ rest e. h (reverse rest)
-      (sym (reverse-reverse (take at src)) ∙ ap reverse e ∙ reverse-append (reverse word) rest ∙ ap (λ w. reverse rest ++ w) (reverse-reverse word)))
+-- the bytes end with a word, or they do not
+pub ends_word : (bytes word : Bytes) (r : Option (Bor Bytes)) → MatchOption r ((front : Bytes) → bytes ≡ front ++ word → ⊥) (λ x. bytes ≡ x.now ++ word) → option_map (λ x. reverse x.now) r ≡ behind (reverse word) (reverse bytes)
+ends_word bytes word (Some x) is = sym (ap (λ l. behind (reverse word) (reverse l)) is ∙ ap (behind (reverse word)) (reverse-append x.now word) ∙ behind_front (reverse word) (reverse x.now))
+ends_word bytes word None un =
+    sym (behind_other (reverse word) (reverse bytes)
+    (λ rest e. un (reverse rest)
+    (sym (reverse-reverse bytes) ∙ ap reverse e ∙ reverse-append (reverse word) rest ∙ ap (λ w. reverse rest ++ w) (reverse-reverse word))))
 
 -- Digits backwards.
 abbrev pub picked : Bool → ℕ → Bytes → Option (ℕ × Bytes)
@@ -176,34 +153,32 @@ pub back_many : (seen : Bytes) (r : Bytes × ℕ × Bytes) → 10 < r.1 → back
 unfolding back_on
 back_many seen r h = ap (λ b. picked b (value (reverse r.0 ++ seen)) r.2) (and_right (leb 1 r.1) (leb r.1 10) (lt-leb r.1 10 h))
 
--- The digits that end before a place, of which there are n.
-module _ (src : Bytes) (at n : ℕ) (run : n ≡ suffix_len is_digit (take at src)) (h : at ≤ length src) where
-  long : at - n + n ≡ length (take at src)
-  long = omega (arith, run, suffix_len-le-length is_digit (take at src), length-take at src)
+-- The digits with which bytes end, of which there are n.
+module _ (bytes : Bytes) (n : ℕ) (run : n ≡ suffix_len is_digit bytes) where
+  long : length bytes - n + n ≡ length bytes
+  long = omega (arith, run, suffix_len-le-length is_digit bytes)
 
-  before_start : take (at - n) (take at src) ≡ take (at - n) src
-  before_start = take-take (at - n) at src (omega arith)
-
-  back_here : back_digits (span is_digit 0 (before src at)) ≡ picked (leb 1 n && leb n 10) (value (drop (at - n) (take at src))) (before src (at - n))
-  unfolding before
+  back_here : back_digits (span is_digit 0 (reverse bytes)) ≡ picked (leb 1 n && leb n 10) (value (drop (length bytes - n) bytes)) (reverse (take (length bytes - n) bytes))
   back_here =
       let z : 0 + n ≡ n = omega arith in
-      ap back_digits (span_by 0 (reverse (take at src)) ∙ ap (λ (m : ℕ). cut_at 0 m (reverse (take at src))) (sym run))
-      ∙ picked_is (cut_at 0 n (reverse (take at src)))
-      ∙ ap (λ (k : ℕ). picked (leb 1 k && leb k 10) (value (reverse (take n (reverse (take at src))))) (drop n (reverse (take at src)))) z
-      ∙ ap (λ (ds : Bytes). picked (leb 1 n && leb n 10) (value ds) (drop n (reverse (take at src)))) (last_taken (take at src) n (at - n) long)
-      ∙ ap (picked (leb 1 n && leb n 10) (value (drop (at - n) (take at src)))) (last_dropped (take at src) n (at - n) long ∙ ap reverse before_start)
+      ap back_digits (span_by 0 (reverse bytes) ∙ ap (λ (m : ℕ). cut_at 0 m (reverse bytes)) (sym run))
+      ∙ picked_is (cut_at 0 n (reverse bytes))
+      ∙ ap (λ (k : ℕ). picked (leb 1 k && leb k 10) (value (reverse (take n (reverse bytes)))) (drop n (reverse bytes))) z
+      ∙ ap (λ (ds : Bytes). picked (leb 1 n && leb n 10) (value ds) (drop n (reverse bytes))) (last_taken bytes n (length bytes - n) long)
+      ∙ ap (picked (leb 1 n && leb n 10) (value (drop (length bytes - n) bytes))) (last_dropped bytes n (length bytes - n) long)
 
-  pub back_unfit : (n ≡ 0) ⊎ ((n ≡ 0 → ⊥) × (10 < n)) → back_digits (span is_digit 0 (before src at)) ≡ None
-  back_unfit (inl e) = back_here ∙ ap (λ b. picked b (value (drop (at - n) (take at src))) (before src (at - n))) (and_left (leb 1 n) (leb n 10) (lt-leb 1 n (omega arith)))
-  back_unfit (inr w) = back_here ∙ ap (λ b. picked b (value (drop (at - n) (take at src))) (before src (at - n))) (and_right (leb 1 n) (leb n 10) (lt-leb n 10 w.1))
+  pub back_unfit : (n ≡ 0) ⊎ ((n ≡ 0 → ⊥) × (10 < n)) → None ≡ back_digits (span is_digit 0 (reverse bytes))
+  back_unfit (inl e) = sym (back_here ∙ ap (λ b. picked b (value (drop (length bytes - n) bytes)) (reverse (take (length bytes - n) bytes))) (and_left (leb 1 n) (leb n 10) (lt-leb 1 n (omega arith))))
+  back_unfit (inr w) = sym (back_here ∙ ap (λ b. picked b (value (drop (length bytes - n) bytes)) (reverse (take (length bytes - n) bytes))) (and_right (leb 1 n) (leb n 10) (lt-leb n 10 w.1)))
 
-  pub back_taken : 0 < n → n ≤ 10 → back_digits (span is_digit 0 (before src at)) ≡ Some (value (drop (at - n) (take at src)), before src (at - n))
-  back_taken a b = back_here ∙ ap (λ t. picked t (value (drop (at - n) (take at src))) (before src (at - n))) (and_from (leb 1 n) (leb n 10) (le-leb 1 n a) (le-leb n 10 b))
+  pub back_taken : 0 < n → n ≤ 10 → {v : ℕ} → v ≡ value (drop (length bytes - n) bytes) → Some (v, reverse (take (length bytes - n) bytes)) ≡ back_digits (span is_digit 0 (reverse bytes))
+  back_taken a b is =
+      ap (λ (k : ℕ). Some (k, reverse (take (length bytes - n) bytes))) is
+      ∙ sym (back_here ∙ ap (λ t. picked t (value (drop (length bytes - n) bytes)) (reverse (take (length bytes - n) bytes))) (and_from (leb 1 n) (leb n 10) (le-leb 1 n a) (le-leb n 10 b)))
 
 -- one part backwards after another
-pub on_some : {A B : Type 0} (x : Option A) (k : A → Option B) {a : A} {z : Option B} → x ≡ Some a → k a ≡ z → on x k ≡ z
-on_some x k e was = ap (λ y. on y k) e ∙ was
+pub on_some : {A B : Type 0} (x : Option A) (k : A → Option B) {a : A} {z : Option B} → Some a ≡ x → k a ≡ z → on x k ≡ z
+on_some x k e was = ap (λ y. on y k) (sym e) ∙ was
 
-pub on_none : {A B : Type 0} (x : Option A) (k : A → Option B) → x ≡ None → on x k ≡ None
-on_none x k e = ap (λ y. on y k) e
+pub on_none : {A B : Type 0} (x : Option A) (k : A → Option B) → None ≡ x → on x k ≡ None
+on_none x k e = ap (λ y. on y k) (sym e)

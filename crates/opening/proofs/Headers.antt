@@ -1,21 +1,10 @@
 -- The header, at the start of the bytes.
-use Rattle.std.proofs.Common.{◌≡◌, ℕ, suc, ◌+◌, ◌-◌, ◌<◌, ◌≤◌, Bool, false, ◌&&◌, eqb, leb, [], ◌∷◌, ◌++◌, length, get_or, take, Some, None, codes, Option, sym, refl, ap, ◌∙◌, suc-add, zero-add, arith}
+use Rattle.std.proofs.Common.{◌≡◌, ℕ, suc, ◌+◌, ◌-◌, ◌≤◌, Bool, false, eqb, [], ◌∷◌, ◌++◌, length, take, Some, None, codes, Option, sym, refl, ap, ◌∙◌, suc-add, zero-add, arith, Bor, MatchOption}
 use Rattle.format.specs.Bytes.{Bytes}
 use Rattle.format.specs.Frames.{behind}
 use Rattle.format.specs.Revisions.{version_fits, header_fits}
 use Rattle.locality.proofs.Cases.{cases}
 use Rattle.opening.proofs.Backwards.{behind_front, behind_other}
-
--- what stands next
-pub version_here : (rest : Bytes) → 0 < length rest → version_fits rest ≡ leb 48 (get_or rest 0 0) && leb (get_or rest 0 0) 55
-unfolding version_fits
-version_here [] h = absurd (omega arith)
-version_here (x ∷ xs) h = refl
-
-pub version_none : (rest : Bytes) → length rest ≡ 0 → version_fits rest ≡ false
-unfolding version_fits
-version_none [] h = refl
-version_none (x ∷ xs) h = absurd (omega arith)
 
 -- whether a version stands behind the word
 abbrev fitting : Option Bytes → Bool
@@ -29,12 +18,10 @@ by_version file = at (behind (codes "%PDF-1.") file) where
   at None = refl
   at (Some rest) = refl
 
-module _ (src : Bytes) where
-  pub header_read : (r : Bool) (rest : Bytes) → src ≡ codes "%PDF-1." ++ rest → r ≡ version_fits rest → r ≡ header_fits src
-  header_read r rest e f = f ∙ sym (by_version src ∙ ap fitting (ap (behind (codes "%PDF-1.")) e ∙ behind_front (codes "%PDF-1.") rest))
-
-  pub header_none : ((rest : Bytes) → src ≡ codes "%PDF-1." ++ rest → ⊥) → false ≡ header_fits src
-  header_none h = sym (by_version src ∙ ap fitting (behind_other (codes "%PDF-1.") src h))
+-- a version stands behind the word, or nothing does
+pub header_read : (src : Bytes) (r : Bool) (o : Option (Bor Bytes)) → MatchOption o ((rest : Bytes) → src ≡ codes "%PDF-1." ++ rest → ⊥) (λ x. src ≡ codes "%PDF-1." ++ x.now) → MatchOption o (r ≡ false) (λ x. r ≡ version_fits x.now) → r ≡ header_fits src
+header_read src r None un e = e ∙ sym (by_version src ∙ ap fitting (behind_other (codes "%PDF-1.") src un))
+header_read src r (Some x) is e = e ∙ sym (by_version src ∙ ap fitting (ap (behind (codes "%PDF-1.")) is ∙ behind_front (codes "%PDF-1.") x.now))
 
 -- what stands behind a word, cut
 abbrev cut : ℕ → Option Bytes → Option Bytes

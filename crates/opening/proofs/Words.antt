@@ -1,6 +1,5 @@
 -- Ends of line and words, at a place of the window.
-use Rattle.std.proofs.Common.{◌≡◌, ℕ, suc, ◌+◌, ◌<◌, ◌≤◌, true, false, cond, eqb, [], ◌∷◌, length, get_or, drop, Ok, Err, Result, IfOk, sym, refl, ap, ◌∙◌, arith}
-use Rattle.std.proofs.lemmas.List.{at_drop_all}
+use Rattle.std.proofs.Common.{◌≡◌, ℕ, suc, ◌+◌, ◌<◌, ◌≤◌, true, false, cond, eqb, [], ◌∷◌, length, drop, Ok, Err, Result, IfOk, sym, refl, ap, ◌∙◌, arith}
 use Rattle.std.specs.Prelude.{nat_eq}
 use Rattle.std.specs.List.{starts_with}
 use Rattle.std.proofs.lemmas.Bool.{eq-eqb, ne_eqb, eqb-true}
@@ -13,7 +12,7 @@ use Rattle.lexer.specs.Endings.{line_shown}
 use Rattle.locality.proofs.Cases.{cases}
 use Rattle.locality.proofs.Tests.{not_no}
 use Rattle.opening.specs.Parts.{passed, PassesWithin}
-use Rattle.opening.proofs.Places.{at_place, one_on, place_on}
+use Rattle.opening.proofs.Places.{place_on}
 
 -- the same end of line, counted from a place further in front
 abbrev shifted : ℕ → Eol → Eol

@@ -21,5 +21,4 @@ HeldBefore p rows = 20 * length (rows_held rows) ≤ p
 -- The bytes of a section's window, a place in it, and the rows that were read before.
 pub record Window (src : Bytes) (from : ℕ) (rows : Rows) : Type 0 where
   pub few : length src ≤ window_bytes
-  pub place : from ≤ length src
   pub held : HeldBefore from rows

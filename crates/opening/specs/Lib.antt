@@ -1,9 +1,9 @@
 pub mod Answers
-pub mod Backwards
 pub mod Entries
 pub mod Figures
 pub mod Held
 pub mod Parts
+pub mod Places
 pub mod Readings
 pub mod Subsections
 pub mod Trailers

@@ -1,5 +1,5 @@
 // The entries of a subsection.
-ghost use Rattle.std.specs.Prelude.{◌≡◌, ◌≤◌, ◌||◌, length, ◌==◌};
+ghost use Rattle.std.specs.Prelude.{◌≡◌, ◌||◌, ◌==◌};
 ghost use Rattle.entries.specs.Rows.{slot_of};
 ghost use Rattle.format.specs.Lines.{slot, use_mark, slot_end, slot_ends};
 ghost use Rattle.opening.specs.Parts.{Passes, Takes};
@@ -7,20 +7,21 @@ ghost use Rattle.opening.specs.Parts.{Passes, Takes};
 use crate::lines::{digits_of, exact};
 use crate::part::Lack;
 pub use entries::entry::Entry;
+use lexer::reader::Lexer;
 
 // `n`, for an entry in use, or `f`.
-fn use_mark(src: &[u8], from: usize) -> Result<(bool, usize), Lack>
-    requires { from ≤ length src.now }
-    ensures { Takes (λ b. b) use_mark src.now from result }
+fn use_mark(at: Lexer<'_>) -> Result<(bool, usize), Lack>
+    ensures { Takes (λ b. b) use_mark at.entry.src.now at.entry.place result }
 {
-    if from == src.len() {
+    // by tests: behind a slice pattern the proof has no fact that says which byte stands first
+    if at.place == at.src.len() {
         return Err(Lack::Short);
     }
-    if src[from] == b'n' {
-        return Ok((true, from + 1));
+    if at.src[at.place] == b'n' {
+        return Ok((true, at.place + 1));
     }
-    if src[from] == b'f' {
-        return Ok((false, from + 1));
+    if at.src[at.place] == b'f' {
+        return Ok((false, at.place + 1));
     }
     Err(Lack::Misfit)
 }
@@ -30,36 +31,33 @@ fn use_mark(src: &[u8], from: usize) -> Result<(bool, usize), Lack>
 fn ends_entry(x: u8, y: u8) -> bool
     ensures { result ≡ slot_ends x y }
 {
-    if x == b' ' {
-        return y == b'\r' || y == b'\n';
-    }
-    x == b'\r' && y == b'\n'
+    matches!((x, y), (b' ', b'\r' | b'\n') | (b'\r', b'\n'))
 }
 
 // The first of them.
+#[tactic(auto, using(std::proofs::lemmas::Bool::Decides::nat_tests))]
 fn starts_end(x: u8) -> bool
     ensures { result ≡ (x == 32 || x == 13) }
 {
-    x == b' ' || x == b'\r'
+    matches!(x, b' ' | b'\r')
 }
 
-fn entry_end(src: &[u8], from: usize) -> Result<usize, Lack>
-    requires { from ≤ length src.now }
-    ensures { Passes slot_end src.now from result }
+fn entry_end(at: Lexer<'_>) -> Result<usize, Lack>
+    ensures { Passes slot_end at.entry.src.now at.entry.place result }
 {
-    if from == src.len() {
+    if at.place == at.src.len() {
         return Err(Lack::Short);
     }
-    if from + 1 == src.len() {
-        if starts_end(src[from]) {
+    if at.place + 1 == at.src.len() {
+        if starts_end(at.src[at.place]) {
             return Err(Lack::Short);
         }
         return Err(Lack::Misfit);
     }
-    if !ends_entry(src[from], src[from + 1]) {
+    if !ends_entry(at.src[at.place], at.src[at.place + 1]) {
         return Err(Lack::Misfit);
     }
-    Ok(from + 2)
+    Ok(at.place + 2)
 }
 
 // The entry that has these ten digits: an object's offset, or the next free number.
@@ -80,15 +78,15 @@ fn entry_of(in_use: bool, field: u64, generation: u32) -> Entry
 }
 
 // The 20 bytes of an entry.
-pub fn entry_at(src: &[u8], from: usize) -> Result<(Entry, usize), Lack>
-    requires { from ≤ length src.now }
-    ensures { Takes slot_of slot src.now from result }
+pub fn entry_at(at: Lexer<'_>) -> Result<(Entry, usize), Lack>
+    ensures { Takes slot_of slot at.entry.src.now at.entry.place result }
 {
-    let (field, field_end) = digits_of(10, src, from)?;
-    let gap_end = exact(src, field_end, b" ")?;
-    let (generation, generation_end) = digits_of(5, src, gap_end)?;
-    let mark_start = exact(src, generation_end, b" ")?;
-    let (in_use, mark_end) = use_mark(src, mark_start)?;
-    let end = entry_end(src, mark_end)?;
+    let (field, field_end) = digits_of(10, at)?;
+    let gap_end = exact(at.to(field_end), b" ")?;
+    let (generation, generation_end) = digits_of(5, at.to(gap_end))?;
+    let mark_start = exact(at.to(generation_end), b" ")?;
+    let (in_use, mark_end) = use_mark(at.to(mark_start))?;
+    let end = entry_end(at.to(mark_end))?;
+    // no `try_from`: five digits spell less than 2^32, so that nothing could be refused
     Ok((entry_of(in_use, field, generation as u32), end))
 }

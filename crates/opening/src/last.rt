@@ -1,60 +1,44 @@
-// The offset that a file's own tail gives, read backwards from the end of the file.
+// The offset that a file's own tail gives, read backwards from the end of the file. Each reader is given the bytes that the part ends, and answers
+// those before it.
 ghost use Rattle.std.specs.Prelude.{◌≡◌, ℕ, ◌-◌, ◌≤◌, reverse, length, drop};
+ghost use Rattle.std.specs.Option.{option_map};
 ghost use Rattle.format.specs.Bytes.{Bytes, is_digit, span};
 ghost use Rattle.format.specs.Frames.{behind};
 ghost use Rattle.format.specs.Sections.{back_eol, back_digits, last_offset};
-ghost use Rattle.opening.specs.Backwards.{before, back_to, back_taken, BackWithin, BackTakenWithin};
 
 use crate::lines::MOST_DIGITS;
 use crate::numbers::{digits_at_end, number};
 
-// The place of the end of line that ends before `at`.
-fn back_eol(src: &[u8], at: usize) -> Option<usize>
-    requires { at ≤ length src.now }
-    ensures is { back_eol (before src.now at) ≡ back_to src.now result }
-    ensures within { BackWithin at result }
+// An end of line.
+fn back_eol(bytes: &[u8]) -> Option<&[u8]>
+    ensures { option_map (λ front. reverse front.now) result ≡ back_eol (reverse bytes.now) }
 {
-    if at == 0 {
-        return None;
+    if let Some(front) = bytes.strip_suffix(b"\r\n") {
+        return Some(front);
     }
-    if src[at - 1] == b'\r' {
-        return Some(at - 1);
+    if let Some(front) = bytes.strip_suffix(b"\n") {
+        return Some(front);
     }
-    if src[at - 1] != b'\n' {
-        return None;
-    }
-    if at == 1 {
-        return Some(at - 1);
-    }
-    if src[at - 2] == b'\r' {
-        return Some(at - 2);
-    }
-    Some(at - 1)
+    bytes.strip_suffix(b"\r")
 }
 
-// The place of these bytes, where they end before `at`.
-fn back_exact(src: &[u8], at: usize, word: &[u8]) -> Option<usize>
-    requires { at ≤ length src.now }
-    ensures is { behind (reverse word.now) (before src.now at) ≡ back_to src.now result }
-    ensures within { BackWithin at result }
+// Just these bytes.
+fn back_exact<'a>(bytes: &'a [u8], word: &[u8]) -> Option<&'a [u8]>
+    ensures { option_map (λ front. reverse front.now) result ≡ behind (reverse word.now) (reverse bytes.now) }
 {
-    let before = src[..at].strip_suffix(word)?;
-    Some(before.len())
+    bytes.strip_suffix(word)
 }
 
-// The number that one to ten digits spell that end before `at`, and their place.
-fn back_digits(src: &[u8], at: usize) -> Option<(u64, usize)>
-    requires { at ≤ length src.now }
-    ensures is { back_digits (span is_digit 0 (before src.now at)) ≡ back_taken src.now result }
-    ensures within { BackTakenWithin at result }
+// The number that one to ten digits spell.
+fn back_digits(bytes: &[u8]) -> Option<(u64, &[u8])>
+    ensures { option_map (λ x. (x.0, reverse x.1.now)) result ≡ back_digits (span is_digit 0 (reverse bytes.now)) }
 {
-    let before = &src[..at];
-    let found = digits_at_end(before);
+    let found = digits_at_end(bytes);
     if found == 0 || found > MOST_DIGITS {
         return None;
     }
-    let start = at - found;
-    Some((number(&before[start..]), start))
+    let start = bytes.len() - found;
+    Some((number(&bytes[start..]), &bytes[..start]))
 }
 
 // The offset that the tail at the end of these bytes gives, and so of any file whose last bytes they are, where they are 31 or more or the whole file.
@@ -62,11 +46,11 @@ pub fn last_offset(src: &[u8]) -> Option<u64>
     ensures is { result ≡ last_offset src.now }
     ensures ends { (file : Bytes) (n : ℕ) → 31 ≤ n → src.now ≡ drop (length file - n) file → result ≡ last_offset file }
 {
-    let mark_end = back_eol(src, src.len())?;
-    let mark = back_exact(src, mark_end, b"%%EOF")?;
-    let digits_end = back_eol(src, mark)?;
-    let (offset, digits_start) = back_digits(src, digits_end)?;
-    let word_end = back_eol(src, digits_start)?;
-    let _start = back_exact(src, word_end, b"startxref")?;
+    let mark_end = back_eol(src)?;
+    let mark = back_exact(mark_end, b"%%EOF")?;
+    let digits_end = back_eol(mark)?;
+    let (offset, digits_start) = back_digits(digits_end)?;
+    let word_end = back_eol(digits_start)?;
+    let _start = back_exact(word_end, b"startxref")?;
     Some(offset)
 }

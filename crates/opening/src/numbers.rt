@@ -25,7 +25,7 @@ fn with_digit(n: u64, b: u8) -> u64
     requires { (n < 1000000000) × (is_digit b ≡ true) }
     ensures { result ≡ n * 10 + (b - 48) }
 {
-    n * 10 + (b - b'0') as u64
+    n * 10 + u64::from(b - b'0')
 }
 
 // The number that up to ten digits spell.

@@ -11,38 +11,55 @@ use faults::fault::Fault;
 use faults::layer::Layer;
 use faults::reason::Reason;
 
-impl View<'_> {
-    // What a line or an entry that starts at `from` lacks, as a fault.
-    fn line_fault(&self, from: usize, lack: Lack) -> Fault
-        requires { from ≤ length self.now.src.now }
-        ensures { result ≡ line_fault self.now.base from self.now.src.now lack }
+impl<'a> View<'a> {
+    // The same bytes from another place on.
+    pub(crate) fn to(self, place: usize) -> View<'a>
+        requires { place ≤ length self.at.src.now }
+        ensures base { result.base ≡ self.entry.base }
+        ensures src { result.at.src.now ≡ self.entry.at.src.now }
+        ensures place { result.at.place ≡ place }
     {
-        match lack {
-            Lack::Short => Fault::met(Reason::BytesEnd, Layer::Section, self.base + self.src.len()),
-            Lack::Misfit => Fault::met(Reason::BadLine, Layer::Section, self.base + from),
+        View {
+            base: self.base,
+            at: self.at.to(place),
         }
     }
 
-    // The answer of a line or an entry, with its fault: where its bytes end, at the end of the view; where they do not fit, at its first byte.
-    pub fn placed<T>(&self, from: usize, part: Result<T, Lack>) -> Result<T, Fault>
-        requires { from ≤ length self.now.src.now }
-        ensures { result ≡ answered (placed (self.now.base + from) (drop from self.now.src.now) (piece_here part)) }
+    // What a line or an entry that starts here lacks, as a fault.
+    pub(crate) fn line_fault(self, lack: Lack) -> Fault
+        ensures { result ≡ line_fault self.entry.base self.entry.at.place self.entry.at.src.now lack }
+    {
+        match lack {
+            Lack::Short => Fault::met(
+                Reason::BytesEnd,
+                Layer::Section,
+                self.base + self.at.src.len(),
+            ),
+            Lack::Misfit => Fault::met(Reason::BadLine, Layer::Section, self.base + self.at.place),
+        }
+    }
+
+    // The answer of a line or an entry that starts here, with its fault: where its bytes end, at the end of the view; where they do not fit, at its
+    // first byte.
+    pub fn placed<T>(self, part: Result<T, Lack>) -> Result<T, Fault>
+        ensures { result ≡ answered (placed (self.entry.base + self.entry.at.place) (drop self.entry.at.place self.entry.at.src.now) (piece_here part)) }
     {
         // no `map_err`: what its closure answered was left unopened in the proof, and the fault's equation did not close
         match part {
             Ok(x) => Ok(x),
-            Err(lack) => Err(self.line_fault(from, lack)),
+            Err(lack) => Err(self.line_fault(lack)),
         }
     }
 
     // A tail that gives the offset `offset`: `startxref`, the digits, `%%EOF`, each a line.
-    pub fn tail(&self, from: usize, offset: u64) -> Result<usize, Fault>
-        requires { from ≤ length self.now.src.now }
-        ensures is { tail offset (self.now.base + from) (drop from self.now.src.now) ≡ passed_to self.now.base self.now.src.now result }
-        ensures within { EndsWithin self.now.src.now from result }
+    pub fn tail(self, offset: u64) -> Result<usize, Fault>
+        ensures is { tail offset (self.entry.base + self.entry.at.place) (drop self.entry.at.place self.entry.at.src.now) ≡ passed_to self.entry.base self.entry.at.src.now result }
+        ensures within { EndsWithin self.entry.at.src.now self.entry.at.place result }
     {
-        let number = self.placed(from, exact_line(self.src, from, b"startxref"))?;
-        let mark = self.placed(number, number_line(offset, self.src, number))?;
-        self.placed(mark, exact_line(self.src, mark, b"%%EOF"))
+        let number = self.placed(exact_line(self.at, b"startxref"))?;
+        let second = self.to(number);
+        let mark = second.placed(number_line(offset, second.at))?;
+        let last = self.to(mark);
+        last.placed(exact_line(last.at, b"%%EOF"))
     }
 }

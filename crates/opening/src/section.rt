@@ -10,7 +10,7 @@ use crate::rows::Rows;
 use crate::subsections::read_subsections;
 use crate::view::View;
 use faults::fault::Fault;
-use lexer::space::skip_space;
+use lexer::reader::Lexer;
 use objects::dictionary::dictionary_at;
 
 // The place behind its tail, where its trailer's `<<` stands and the place behind that, each in the window; and whether it has one subsection only,
@@ -29,14 +29,19 @@ pub fn read_section(base: usize, src: &[u8], rows: &mut Rows) -> Result<Section,
     requires few { length src.now ≤ window_bytes }
     ensures { MatchResult result (λ s. SectionRead base src.now s rows.new) (λ f. section base src.now ≡ bad f) }
 {
-    let view = View { base, src };
+    let view = View {
+        base,
+        at: Lexer::new(src),
+    };
     rows.clear();
-    let start = view.placed(0, exact_line(src, 0, b"xref"))?;
-    let subsections = read_subsections(&view, start, rows)?;
-    let word_end = view.placed(subsections.end, exact(src, subsections.end, b"trailer"))?;
+    let start = view.placed(exact_line(view.at, b"xref"))?;
+    let subsections = read_subsections(view.to(start), rows)?;
+    let word = view.to(subsections.end);
+    let word_end = word.placed(exact(word.at, b"trailer"))?;
     let dictionary = dictionary_at(base, src, word_end)?;
-    let tail_start = skip_space(src, dictionary.end);
-    let end = view.tail(tail_start, base as u64)?;
+    let tail_start = view.at.to(dictionary.end).skip_space();
+    // `usize` has no `From` for `u64`
+    let end = view.to(tail_start).tail(base as u64)?;
     Ok(Section {
         end,
         mark: dictionary.mark,

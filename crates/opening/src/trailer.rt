@@ -19,7 +19,10 @@ fn kind(value: Option<Value>) -> Kind
     match value.map(|value| value.shape) {
         None | Some(Shape::Null) => Kind::Absent,
         Some(Shape::Integer(z)) => Kind::Number(z),
-        Some(Shape::Reference { number, generation }) => Kind::Reference(number, generation as u32),
+        Some(Shape::Reference { number, generation }) => Kind::Reference(
+            number,
+            u32::from(generation),
+        ),
         Some(_) => Kind::Other,
     }
 }

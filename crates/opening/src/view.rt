@@ -1,10 +1,12 @@
 // A part of a file in memory.
 ghost use Rattle.std.specs.Prelude.{◌+◌, ◌^◌, ◌<◌, length};
 
-// The bytes, and the place of the file at which they start.
-#[derive(Clone, Copy, Debug)]
+use lexer::reader::Lexer;
+
+// The bytes with a place in them, and the place of the file at which they start.
+#[derive(Clone, Copy)]
 pub struct View<'a> {
     pub base: usize,
-    pub src: &'a [u8],
-    ghost counted: { base + length src.now < 2 ^ 64 },
+    pub at: Lexer<'a>,
+    ghost counted: { base + length at.src.now < 2 ^ 64 },
 }

@@ -6,6 +6,7 @@ ghost use Rattle.scripts.specs.Lines.{body_line_of, head_of, number_of, put_of};
 
 use crate::error::Mistake;
 use crate::line::{BodyLine, Head};
+use lexer::reader::Lexer;
 use opening::lines::digits;
 
 // How many bytes stand before the first LF.
@@ -24,7 +25,7 @@ pub fn line_length(bytes: &[u8]) -> usize
 fn number(text: &[u8]) -> Option<u64>
     ensures { result ≡ number_of text.now }
 {
-    let (n, end) = digits(text, 0).ok()?;
+    let (n, end) = digits(Lexer::new(text)).ok()?;
     if end == text.len() { Some(n) } else { None }
 }
 

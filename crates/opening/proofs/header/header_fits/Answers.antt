@@ -1,17 +1,13 @@
-use Rattle.std.proofs.Common.{Some, None, codes}
+use Rattle.std.proofs.Common.{◌≡◌, false, codes, rules, MatchOption}
 use Rattle.std.proofs.lemmas.Bool.Decides.{Decides-eqb}
 use Rattle.std.proofs.lemmas.Slice.Eq.{strip_prefix_is}
-use Rattle.opening.proofs.Headers.{header_read, header_none, header_in_file}
+use Rattle.format.specs.Revisions.{version_fits}
+use Rattle.opening.proofs.Headers.{header_read, header_in_file}
 use Rattle.opening.proofs.header.header_fits.Goals as goal
 
-pub returns-in-Some : goal.returns-in-Some
-returns-in-Some c =
-    let w = strip_prefix_is Decides-eqb c.args.src.now (codes "%PDF-1.") (Some c.in-Some.rest) c.in-Some.ensures.cases in
-    let e = header_read c.args.src.now _ c.in-Some.rest.now w c.version_fits.ensures in
-    record { is = e; begins = header_in_file _ _ e }
-
-pub returns-in-None : goal.returns-in-None
-returns-in-None c =
-    let w = strip_prefix_is Decides-eqb c.args.src.now (codes "%PDF-1.") None c.in-None.ensures.cases in
-    let e = header_none c.args.src.now w in
+pub returns : goal.returns
+returns c =
+    let word = strip_prefix_is Decides-eqb c.args.src.now (codes "%PDF-1.") c.strip_prefix.result c.strip_prefix.ensures.cases in
+    let fits : MatchOption c.strip_prefix.result (c.is_some_and.result ≡ false) (λ x. c.is_some_and.result ≡ version_fits x.now) = search rules in
+    let e = header_read c.args.src.now c.is_some_and.result c.strip_prefix.result word fits in
     record { is = e; begins = header_in_file _ _ e }

@@ -1,21 +1,20 @@
-use Rattle.std.proofs.Common.{arith}
-use Rattle.opening.proofs.Backwards.{eol_none, eol_cr, eol_other, eol_lf_first, eol_crlf, eol_lf}
+use Rattle.std.proofs.Common.{Some, None, codes}
+use Rattle.std.proofs.lemmas.Bool.Decides.{Decides-eqb}
+use Rattle.std.proofs.lemmas.Slice.Eq.{strip_suffix_is}
+use Rattle.opening.proofs.Backwards.{ends_crlf, ends_lf, ends_cr}
 use Rattle.opening.proofs.last.back_eol.Goals as goal
 
-pub returns-then-at-eq0 : goal.returns-then-at-eq0
-returns-then-at-eq0 c = record { is = eol_none c.args.src.now c.args.at c.if-at-eq0.true; within = tt }
+pub returns-in-Some : goal.returns-in-Some
+returns-in-Some c =
+    ends_crlf c.args.bytes.now _ (strip_suffix_is Decides-eqb c.args.bytes.now (codes "\r\n") (Some c.in-Some.front) c.in-Some.ensures.cases)
 
-pub returns-then-src-at-eq13 : goal.returns-then-src-at-eq13
-returns-then-src-at-eq13 c = record { is = eol_cr c.args.src.now c.args.at (omega arith) c.requires c.if-src-at-eq13.true; within = omega arith }
-
-pub returns-then-src-at-ne10 : goal.returns-then-src-at-ne10
-returns-then-src-at-ne10 c = record { is = eol_other c.args.src.now c.args.at (omega arith) c.requires c.if-src-at-eq13.false c.if-src-at-ne10.true; within = tt }
-
-pub returns-then-at-eq1 : goal.returns-then-at-eq1
-returns-then-at-eq1 c = record { is = eol_lf_first c.args.src.now c.args.at (omega arith) c.requires c.if-at-eq1.true c.if-src-at-ne10.false; within = omega arith }
-
-pub returns-then-src-at-eq13-2 : goal.returns-then-src-at-eq13-2
-returns-then-src-at-eq13-2 c = record { is = eol_crlf c.args.src.now c.args.at (omega arith) c.requires c.if-at-eq1.false c.if-src-at-ne10.false c.if-src-at-eq13-2.true; within = omega arith }
+pub returns-in-Some-strip_suffix : goal.returns-in-Some-strip_suffix
+returns-in-Some-strip_suffix c =
+    ends_lf c.args.bytes.now _ (strip_suffix_is Decides-eqb c.args.bytes.now (codes "\n") (Some c.in-Some-strip_suffix.front) c.in-Some-strip_suffix.ensures.cases)
+    (strip_suffix_is Decides-eqb c.args.bytes.now (codes "\r\n") None c.in_default.ensures.cases)
 
 pub returns : goal.returns
-returns c = record { is = eol_lf c.args.src.now c.args.at (omega arith) c.requires c.if-at-eq1.false c.if-src-at-ne10.false c.if-src-at-eq13-2.false; within = omega arith }
+returns c =
+    ends_cr c.args.bytes.now c.strip_suffix-3.result
+    (strip_suffix_is Decides-eqb c.args.bytes.now (codes "\n") None c.in_default-strip_suffix.ensures.cases)
+    (strip_suffix_is Decides-eqb c.args.bytes.now (codes "\r") c.strip_suffix-3.result c.strip_suffix-3.ensures.cases)

@@ -10,42 +10,33 @@ use Rattle.opening.proofs.Places.{rest_is}
 use Rattle.opening.proofs.Runs.{front_pass}
 use Rattle.opening.proofs.lines.digits.Goals as goal
 
-pub returns-then-from-src : goal.returns-then-from-src
-returns-then-from-src c = record {
-  is = record { is = λ base. digits_short c.args.src.now c.args.from base (omega arith); within = tt };
-  small = tt;
-}
+pub returns-then-at-clause-is : goal.returns-then-at-clause-is
+returns-then-at-clause-is c = record { is = λ base. digits_short c.args.at.src.now c.args.at.place base (omega arith); within = tt }
 
-pub returns-then-found-eq0 : goal.returns-then-found-eq0
-returns-then-found-eq0 c =
-    let e = c.digits_in_front-found.ensures ∙ ap (prefix_len is_digit) (rest_is c.args.src.now c.args.from) in
-    record {
-      is = record { is = λ base. digits_misfit c.args.src.now c.args.from base c.digits_in_front-found.result e (omega arith) c.then-found-eq0.either; within = tt };
-      small = tt;
-    }
+pub returns-then-found-eq0-clause-is : goal.returns-then-found-eq0-clause-is
+returns-then-found-eq0-clause-is c =
+    let e = c.digits_in_front-found.ensures ∙ ap (prefix_len is_digit) (rest_is c.args.at.src.now c.args.at.place) in
+    record { is = λ base. digits_misfit c.args.at.src.now c.args.at.place base c.digits_in_front-found.result e (omega arith) c.then-found-eq0.either; within = tt }
 
-pub number-requires : goal.number-requires
-number-requires c =
+pub number-requires-clause-digits : goal.number-requires-clause-digits
+number-requires-clause-digits c =
     let n = c.digits_in_front-found.result in
-    let r = rest_is c.args.src.now c.args.from in
+    let r = rest_is c.args.at.src.now c.args.at.place in
     let e = c.digits_in_front-found.ensures ∙ ap (prefix_len is_digit) r in
-    record {
-      few = rw length-take (omega arith);
-      digits = All-same (λ x. is_digit x ≡ true) _ _ (ap (take n) r) (front_pass (drop c.args.from c.args.src.now) n (omega arith));
-    }
+    All-same (λ x. is_digit x ≡ true) _ _ (ap (take n) r) (front_pass (drop c.args.at.place c.args.at.src.now) n (omega arith))
 
-pub returns : goal.returns
-returns c =
+pub returns-clause-is : goal.returns-clause-is
+returns-clause-is c =
     let n = c.digits_in_front-found.result in
-    let r = rest_is c.args.src.now c.args.from in
+    let r = rest_is c.args.at.src.now c.args.at.place in
     let e = c.digits_in_front-found.ensures ∙ ap (prefix_len is_digit) r in
-    let l = prefix_len-le-length is_digit (drop c.args.from c.args.src.now) in
-    let k = length-drop c.args.from c.args.src.now in
+    let l = prefix_len-le-length is_digit (drop c.args.at.place c.args.at.src.now) in
+    let k = length-drop c.args.at.place c.args.at.src.now in
     let v = c.number.ensures.is ∙ ap (λ xs. value (take n xs)) r in
     record {
-      is = record {
-        is = λ base. digits_took c.args.src.now c.args.from base n e (omega arith) (omega arith) ∙ ap (λ m. took m (base + (c.args.from + n)) (drop (c.args.from + n) c.args.src.now)) (sym v);
-        within = (omega arith, omega arith);
-      };
-      small = ten_at_most _ _ c.number.ensures.small (rw length-take (omega arith));
+      is = λ base. digits_took c.args.at.src.now c.args.at.place base n e (omega arith) (omega arith) ∙ ap (λ m. took m (base + (c.args.at.place + n)) (drop (c.args.at.place + n) c.args.at.src.now)) (sym v);
+      within = (omega arith, omega arith);
     }
+
+pub returns-clause-small : goal.returns-clause-small
+returns-clause-small c = ten_at_most _ _ c.number.ensures.small (rw length-take (omega arith))

@@ -1,48 +1,50 @@
-use Rattle.std.proofs.Common.{Ok, refl, arith, length-append}
+use Rattle.std.proofs.Common.{Ok, refl, ap, ◌∙◌, length, arith, length-append}
 use Rattle.entries.specs.Rows.{slot_of}
 use Rattle.format.specs.Lines.{slot}
 use Rattle.opening.specs.Held.{rows_held}
-use Rattle.opening.proofs.Answered.{row_placed, row_within}
+use Rattle.opening.proofs.Answered.{row_read}
 use Rattle.opening.proofs.Listing.{entry_long, entries_more, entries_bad, entries_all}
-use Rattle.opening.proofs.Readings.{exit_is, reads_bad, made_bad}
+use Rattle.opening.proofs.Readings.{reads_bad}
 use Rattle.opening.proofs.subsections.read_entries.Goals as goal
 
-pub returns-in_err-entry : goal.returns-in_err-entry
-returns-in_err-entry c =
-    let z = exit_is c.from_residual.result c.in_err-entry.field-0.0 c.from_residual.ensures.1 in
-    let b = row_placed slot_of slot _ c.loop-i.at c.args.view.now.base _ c.entry_at.ensures _ c.in_err-entry.ensures in
-    record {
-      is = reads_bad _ _ _ _ _ _ _ _ _ z (entries_bad _ c.args.view.now.base c.loop-i.at c.args.count c.args.first c.loop-i.i (rows_held c.loop-i.rows) c.loop-i.invariant.3 _ (omega arith) b);
-      held = made_bad _ _ _ z;
-      long = made_bad _ _ _ z;
-    }
+pub returns-in_err-entry-clause-is : goal.returns-in_err-entry-clause-is
+returns-in_err-entry-clause-is c =
+    let line = c.loop-i.line in
+    let b = row_read slot_of slot line.base line.at.src.now line.at.place _ c.entry_at.ensures _ c.in_err-entry.ensures in
+    reads_bad c.in_err-entry.field-0.0 c.from_residual.ensures.1 (entries_bad line.at.src.now line.base line.at.place c.args.count c.args.first c.loop-i.i (rows_held c.loop-i.rows) c.loop-i.invariant.listed _ (omega arith) b.is)
 
 pub push-requires : goal.push-requires
 push-requires c =
-    let b = row_placed slot_of slot _ c.loop-i.at c.args.view.now.base _ c.entry_at.ensures _ c.in_ok-entry.ensures in
-    let w = row_within slot_of slot c.args.view.now.src.now c.loop-i.at c.args.view.now.base c.entry_at.result c.entry_at.ensures (Ok (c.in_ok-entry.entry, c.in_ok-entry.end)) c.in_ok-entry.ensures in
-    let l = entry_long c.args.view.now.src.now c.args.view.now.base c.loop-i.at (slot_of c.in_ok-entry.entry) c.in_ok-entry.end b c.loop-i.invariant.1 w.1 in
-    omega (arith, c.loop-i.invariant.2, c.requires.window.few, w.1)
+    let line = c.loop-i.line in
+    let b = row_read slot_of slot line.base line.at.src.now line.at.place c.entry_at.result c.entry_at.ensures (Ok (c.in_ok-entry.entry, c.in_ok-entry.end)) c.in_ok-entry.ensures in
+    let l = entry_long line.at.src.now line.base line.at.place (slot_of c.in_ok-entry.entry) c.in_ok-entry.end b.is (omega arith) b.within.1 in
+    omega (arith, c.loop-i.invariant.held, c.requires.window.few, b.within.1, ap length c.loop-i.invariant.src)
+
+pub to-line-requires : goal.to-line-requires
+to-line-requires c =
+    let line = c.loop-i.line in
+    (row_read slot_of slot line.base line.at.src.now line.at.place c.entry_at.result c.entry_at.ensures (Ok (c.in_ok-entry.entry, c.in_ok-entry.end)) c.in_ok-entry.ensures).within.1
 
 pub loop-i-preserved : goal.loop-i-preserved
 loop-i-preserved c =
-    let b = row_placed slot_of slot _ c.loop-i.at c.args.view.now.base _ c.entry_at.ensures _ c.in_ok-entry.ensures in
-    let w = row_within slot_of slot _ c.loop-i.at c.args.view.now.base _ c.entry_at.ensures _ c.in_ok-entry.ensures in
-    let l = entry_long c.args.view.now.src.now c.args.view.now.base c.loop-i.at (slot_of c.in_ok-entry.entry) c.in_ok-entry.end b c.loop-i.invariant.1 w.1 in
-    let e = c.push.ensures in (
-      omega (arith, c.loop-i.invariant.0),
-      w.1,
-      rw (e, length-append) (omega (arith, c.loop-i.invariant.2)),
-      entries_more _ c.args.view.now.base c.loop-i.at c.args.count c.args.first c.loop-i.i (rows_held c.loop-i.rows) c.loop-i.invariant.3 c.in_ok-entry.entry c.in_ok-entry.end _ _ (omega arith) b refl e,
-    )
-
-pub returns : goal.returns
-returns c =
+    let line = c.loop-i.line in
+    let b = row_read slot_of slot line.base line.at.src.now line.at.place c.entry_at.result c.entry_at.ensures (Ok (c.in_ok-entry.entry, c.in_ok-entry.end)) c.in_ok-entry.ensures in
+    let l = entry_long line.at.src.now line.base line.at.place (slot_of c.in_ok-entry.entry) c.in_ok-entry.end b.is (omega arith) b.within.1 in
+    let e = c.push.ensures in
+    let to = c.to-line.ensures in
     record {
-      is = record {
-        is = entries_all _ c.args.view.now.base c.loop-i.at c.args.count c.args.first c.loop-i.i (rows_held c.loop-i.rows) c.loop-i.invariant.3 (omega arith);
-        within = (omega (arith, c.loop-i.invariant.0), c.loop-i.invariant.1);
-      };
-      held = c.loop-i.invariant.2;
-      long = omega (arith, c.loop-i.invariant.0);
+      base = to.base ∙ c.loop-i.invariant.base;
+      src = to.src ∙ c.loop-i.invariant.src;
+      place = omega (arith, to.place, c.loop-i.invariant.place);
+      held = rw (e, length-append, to.place) (omega (arith, c.loop-i.invariant.held));
+      listed = rw (to.base, to.src, to.place) (entries_more line.at.src.now line.base line.at.place c.args.count c.args.first c.loop-i.i (rows_held c.loop-i.rows) c.loop-i.invariant.listed c.in_ok-entry.entry c.in_ok-entry.end _ _ (omega arith) b.is refl e);
+    }
+
+pub returns-clause-is : goal.returns-clause-is
+returns-clause-is c =
+    let line = c.loop-i.line in
+    let i = c.loop-i.invariant in
+    record {
+      is = rw (i.base, i.src) at (entries_all line.at.src.now line.base line.at.place c.args.count c.args.first c.loop-i.i (rows_held c.loop-i.rows) i.listed (omega arith));
+      within = omega (arith, i.place, ap length i.src);
     }

@@ -1,11 +1,16 @@
-use Rattle.std.proofs.Common.{◌≡◌, ◌+◌, ◌-◌, ◌*◌, ◌≤◌, ◌++◌, length, drop}
+use Rattle.std.proofs.Common.{◌≡◌, ◌+◌, ◌-◌, ◌*◌, ◌++◌}
 use Rattle.format.specs.Sections.{slots}
 use Rattle.opening.specs.Held.{listed_by, HeldBefore}
+use Rattle.opening.specs.Places.{spot, rest}
 use Rattle.opening.specs.Readings.{seen_as}
 use Rattle.opening.proofs.subsections.read_entries.Given as goal
 
 abbrev pub invariant-loop-i : goal.invariant-loop-i
-invariant-loop-i l =
-    (l.at ≡ l.from + 20 * l.i) × (l.at ≤ length l.view.src.now) × HeldBefore l.at l.rows
-    × (seen_as (λ ss. listed_by l.rows ++ ss) (slots (l.count - l.i) (l.first + l.i) (l.view.base + l.at) (drop l.at l.view.src.now))
-    ≡ seen_as (λ ss. listed_by l.initial.rows ++ ss) (slots l.count l.first (l.view.base + l.from) (drop l.from l.view.src.now)))
+invariant-loop-i l = record {
+  base : l.line.base ≡ l.view.base;
+  src : l.line.at.src.now ≡ l.view.at.src.now;
+  place : l.line.at.place ≡ l.view.at.place + 20 * l.i;
+  held : HeldBefore l.line.at.place l.rows;
+  listed : seen_as (λ ss. listed_by l.rows ++ ss) (slots (l.count - l.i) (l.first + l.i) (spot l.line) (rest l.line))
+      ≡ seen_as (λ ss. listed_by l.initial.rows ++ ss) (slots l.count l.first (spot l.view) (rest l.view));
+}

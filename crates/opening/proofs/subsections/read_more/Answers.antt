@@ -1,46 +1,53 @@
-use Rattle.std.proofs.Common.{◌≡◌, suc, ◌+◌, ◌-◌, ◌<◌, length, drop, sym, refl, arith}
+use Rattle.std.proofs.Common.{◌≡◌, suc, ◌+◌, ◌-◌, length, drop, sym, refl, ap, ◌∙◌, arith}
 use Rattle.format.specs.Strings.{turns}
 use Rattle.opening.specs.Held.{listed_by}
 use Rattle.opening.proofs.AllSubs.{subs_end, subs_bad, subs_more}
-use Rattle.opening.proofs.Readings.{exit_is, reads_bad}
+use Rattle.opening.proofs.Readings.{reads_bad}
 use Rattle.opening.proofs.subsections.read_more.Goals as goal
 
-pub loop-rows-init : goal.loop-rows-init
-loop-rows-init c = (omega arith, c.requires.place, c.requires.held, (turns, omega (arith, c.requires.few), refl))
+pub loop-line-init : goal.loop-line-init
+loop-line-init c = record {
+  base = refl;
+  src = refl;
+  behind = omega arith;
+  held = c.requires.held;
+  turn = turns;
+  enough = omega (arith, c.requires.few);
+  listing = refl;
+}
 
 pub returns-in_err-one : goal.returns-in_err-one
 returns-in_err-one c =
-    let z = exit_is c.from_residual.result c.in_err-one.field-0.0 c.from_residual.ensures.1 in
-    let n = c.loop-rows.invariant.3.0 in
-    let h : length c.args.view.now.src.now - c.loop-rows.at < n = c.loop-rows.invariant.3.1 in
-    let k : n ≡ suc (n - 1) = omega arith in
-    reads_bad _ _ _ _ _ _ _ _ _ z
-    (subs_bad n (n - 1) c.loop-rows.next (c.args.view.now.base + c.loop-rows.at) (drop c.loop-rows.at c.args.view.now.src.now) (listed_by c.loop-rows.rows) c.loop-rows.invariant.3.2 k
-    (sym c.loop-rows-test.ensures) _ c.in_err-one.ensures.is.is)
+    let line = c.loop-line.line in
+    let i = c.loop-line.invariant in
+    let k : i.turn ≡ suc (i.turn - 1) = omega (arith, i.enough) in
+    reads_bad c.in_err-one.field-0.0 c.from_residual.ensures.1
+    (subs_bad i.turn (i.turn - 1) c.loop-line.next (line.base + line.at.place) (drop line.at.place line.at.src.now) (listed_by c.loop-line.rows) i.listing k
+    (sym c.loop-line-test.ensures) _ c.in_err-one.ensures.is.is)
 
-pub loop-rows-preserved : goal.loop-rows-preserved
-loop-rows-preserved c =
+pub loop-line-preserved : goal.loop-line-preserved
+loop-line-preserved c =
     let e = c.in_ok-one.ensures in
-    let n = c.loop-rows.invariant.3.0 in
-    let h : length c.args.view.now.src.now - c.loop-rows.at < n = c.loop-rows.invariant.3.1 in
-    let k : n ≡ suc (n - 1) = omega arith in
-    let w = e.is.within in
-    let l = e.long in (
-      omega (arith, c.loop-rows.invariant.0, w.0),
-      w.1,
-      e.held,
-      (
-        n - 1,
-        omega (arith, w.1),
-        subs_more n (n - 1) c.loop-rows.next (c.args.view.now.base + c.loop-rows.at) (drop c.loop-rows.at c.args.view.now.src.now) (listed_by c.loop-rows.rows) c.loop-rows.invariant.3.2 k
-            (sym c.loop-rows-test.ensures) _ _ _ _ _ e.is.is,
-      ),
-    )
+    let line = c.loop-line.line in
+    let i = c.loop-line.invariant in
+    let to = c.to-line.ensures in
+    let k : i.turn ≡ suc (i.turn - 1) = omega (arith, i.enough) in
+    record {
+      base = to.base ∙ i.base;
+      src = to.src ∙ i.src;
+      behind = omega (arith, i.behind, e.is.within.0, to.place);
+      held = rw to.place e.held;
+      turn = i.turn - 1;
+      enough = rw (to.src, to.place) (omega (arith, i.enough, e.is.within.1, e.long));
+      listing = rw (to.base, to.src, to.place) (subs_more i.turn (i.turn - 1) c.loop-line.next (line.base + line.at.place) (drop line.at.place line.at.src.now) (listed_by c.loop-line.rows) i.listing k
+          (sym c.loop-line-test.ensures) _ _ _ _ _ e.is.is);
+    }
 
 pub returns : goal.returns
 returns c =
+    let line = c.loop-line.line in
+    let i = c.loop-line.invariant in
     record {
-      is = subs_end c.loop-rows.invariant.3.0 c.loop-rows.next (c.args.view.now.base + c.loop-rows.at) (drop c.loop-rows.at c.args.view.now.src.now) (listed_by c.loop-rows.rows) c.loop-rows.invariant.3.2
-          (sym c.loop-rows-test.ensures);
-      within = (c.loop-rows.invariant.0, c.loop-rows.invariant.1);
+      is = rw (i.base, i.src) at (subs_end i.turn c.loop-line.next (line.base + line.at.place) (drop line.at.place line.at.src.now) (listed_by c.loop-line.rows) i.listing (sym c.loop-line-test.ensures));
+      within = (i.behind, omega (arith, ap length i.src));
     }

@@ -1,16 +1,22 @@
-use Rattle.std.proofs.Common.{◌≡◌, ℕ, ◌+◌, ◌-◌, ◌<◌, ◌≤◌, ◌++◌, length, drop}
+use Rattle.std.proofs.Common.{◌≡◌, ℕ, ◌-◌, ◌<◌, ◌≤◌, ◌++◌, length}
 use Rattle.format.specs.Sections.{subs, listed}
 use Rattle.format.specs.Strings.{turns}
 use Rattle.opening.specs.Held.{listed_by, HeldBefore}
+use Rattle.opening.specs.Places.{spot, rest}
 use Rattle.opening.specs.Readings.{seen_as}
 use Rattle.opening.proofs.subsections.read_more.Given as goal
 
-abbrev pub invariant-loop-rows : goal.invariant-loop-rows
-invariant-loop-rows l =
-    (l.from ≤ l.at) × (l.at ≤ length l.view.src.now) × HeldBefore l.at l.rows
-    × ((n : ℕ) × (length l.view.src.now - l.at < n)
-    × (seen_as (λ ss. listed_by l.rows ++ listed ss) (subs n l.next (l.view.base + l.at) (drop l.at l.view.src.now))
-    ≡ seen_as (λ ss. listed_by l.initial.rows ++ listed ss) (subs turns l.low (l.view.base + l.from) (drop l.from l.view.src.now))))
+abbrev pub invariant-loop-line : goal.invariant-loop-line
+invariant-loop-line l = record {
+  base : l.line.base ≡ l.view.base;
+  src : l.line.at.src.now ≡ l.view.at.src.now;
+  behind : l.view.at.place ≤ l.line.at.place;
+  held : HeldBefore l.line.at.place l.rows;
+  turn : ℕ;
+  enough : length l.line.at.src.now - l.line.at.place < turn;
+  listing : seen_as (λ ss. listed_by l.rows ++ listed ss) (subs turn l.next (spot l.line) (rest l.line))
+      ≡ seen_as (λ ss. listed_by l.initial.rows ++ listed ss) (subs turns l.low (spot l.view) (rest l.view));
+}
 
-abbrev pub decreases-loop-rows : goal.decreases-loop-rows
-decreases-loop-rows l = length l.view.src.now - l.at
+abbrev pub decreases-loop-line : goal.decreases-loop-line
+decreases-loop-line l = length l.line.at.src.now - l.line.at.place

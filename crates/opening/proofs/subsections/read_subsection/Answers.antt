@@ -1,65 +1,64 @@
 use Rattle.std.proofs.Common.{◌+◌, ◌^◌, ◌≤◌, drop, sym, refl, ap, ◌∙◌, arith}
 use Rattle.format.specs.Bytes.{bad}
 use Rattle.format.specs.Lines.{sub_line}
-use Rattle.opening.proofs.Answered.{row_placed, row_within, both_below}
-use Rattle.opening.proofs.Readings.{exit_is, reads_bad, made_bad}
+use Rattle.opening.proofs.Answered.{row_read, both_below}
+use Rattle.opening.proofs.Readings.{reads_bad}
 use Rattle.opening.proofs.Subs.{sub_line_bad, sub_unfit, sub_fits, sub_bad}
 use Rattle.opening.proofs.subsections.read_subsection.Goals as goal
 
-pub returns-in_err-first : goal.returns-in_err-first
-returns-in_err-first c =
-    let z = exit_is c.from_residual.result c.in_err-first.field-0.0 c.from_residual.ensures.1 in
-    let b = row_placed (λ x. x) sub_line _ c.args.from c.args.view.now.base _ c.subsection_line.ensures.is _ c.in_err-first.ensures in
-    record {
-      is = reads_bad _ _ _ _ _ _ _ _ _ z (sub_line_bad c.args.low (c.args.view.now.base + c.args.from) (drop c.args.from c.args.view.now.src.now) _ _ b);
-      held = made_bad _ _ _ z;
-      long = made_bad _ _ _ z;
-      small = made_bad _ _ _ z;
-    }
+pub returns-in_err-first-clause-is : goal.returns-in_err-first-clause-is
+returns-in_err-first-clause-is c =
+    let view = c.args.view in
+    let b = row_read (λ x. x) sub_line view.base view.at.src.now view.at.place _ c.subsection_line.ensures.is _ c.in_err-first.ensures in
+    reads_bad c.in_err-first.field-0.0 c.from_residual.ensures.1 (sub_line_bad c.args.low (view.base + view.at.place) (drop view.at.place view.at.src.now) _ _ b.is)
 
-pub returns-then-first-low : goal.returns-then-first-low
-returns-then-first-low c =
-    let b = row_placed (λ x. x) sub_line _ c.args.from c.args.view.now.base _ c.subsection_line.ensures.is _ c.in_ok-first.ensures in
-    record {
-      is = reads_bad _ _ _ _ _ _ _ _ _ refl (sub_unfit c.args.low (c.args.view.now.base + c.args.from) (drop c.args.from c.args.view.now.src.now) _ _ _ _ _ b c.then-first-low.either ∙ ap bad (sym c.met.ensures));
-      held = tt;
-      long = tt;
-      small = tt;
-    }
+pub returns-then-first-low-clause-is : goal.returns-then-first-low-clause-is
+returns-then-first-low-clause-is c =
+    let view = c.args.view in
+    let b = row_read (λ x. x) sub_line view.base view.at.src.now view.at.place _ c.subsection_line.ensures.is _ c.in_ok-first.ensures in
+    reads_bad _ refl (sub_unfit c.args.low (view.base + view.at.place) (drop view.at.place view.at.src.now) _ _ _ _ _ b.is c.then-first-low.either ∙ ap bad (sym c.line_fault.ensures))
+
+pub to-requires : goal.to-requires
+to-requires c =
+    let view = c.args.view in
+    let b = row_read (λ x. x) sub_line view.base view.at.src.now view.at.place _ c.subsection_line.ensures.is _ c.in_ok-first.ensures in
+    b.within.1
 
 pub read_entries-requires : goal.read_entries-requires
 read_entries-requires c =
-    let w = row_within (λ x. x) sub_line _ c.args.from c.args.view.now.base _ c.subsection_line.ensures.is _ c.in_ok-first.ensures in
+    let view = c.args.view in
+    let b = row_read (λ x. x) sub_line view.base view.at.src.now view.at.place _ c.subsection_line.ensures.is _ c.in_ok-first.ensures in
     let s = both_below (10 ^ 10) _ _ _ _ c.in_ok-first.ensures c.subsection_line.ensures.small in
     record {
-      window = record { few = c.requires.few; place = w.1; held = omega (arith, c.requires.held, w.0) };
+      window = record { few = rw c.to.ensures.src c.requires.few; held = omega (arith, c.requires.held, b.within.0, c.to.ensures.place) };
       numbers = omega (arith, s.0, s.1);
     }
 
-pub returns-in_err-end : goal.returns-in_err-end
-returns-in_err-end c =
-    let z = exit_is c.from_residual-in_err-end.result c.in_err-end.field-0.0 c.from_residual-in_err-end.ensures.1 in
-    let b = row_placed (λ x. x) sub_line _ c.args.from c.args.view.now.base _ c.subsection_line.ensures.is _ c.in_ok-first.ensures in
+pub returns-in_err-end-clause-is : goal.returns-in_err-end-clause-is
+returns-in_err-end-clause-is c =
+    let view = c.args.view in
+    let b = row_read (λ x. x) sub_line view.base view.at.src.now view.at.place _ c.subsection_line.ensures.is _ c.in_ok-first.ensures in
+    let e = rw (c.to.ensures.base, c.to.ensures.src, c.to.ensures.place) at c.in_err-end.ensures.is.is in
+    let l : 1 ≤ c.in_ok-first.count = omega (arith, c.if-count-eq0.false) in
+    reads_bad c.in_err-end.field-0.0 c.from_residual-in_err-end.ensures.1 (sub_bad c.args.low (view.base + view.at.place) (drop view.at.place view.at.src.now) _ _ _ _ _ b.is c.if-first-low.false l e)
+
+pub returns-clause-is : goal.returns-clause-is
+returns-clause-is c =
+    let view = c.args.view in
+    let b = row_read (λ x. x) sub_line view.base view.at.src.now view.at.place _ c.subsection_line.ensures.is _ c.in_ok-first.ensures in
+    let e = rw (c.to.ensures.base, c.to.ensures.src, c.to.ensures.place) at c.in_ok-end.ensures in
     let l : 1 ≤ c.in_ok-first.count = omega (arith, c.if-count-eq0.false) in
     record {
-      is = reads_bad _ _ _ _ _ _ _ _ _ z (sub_bad c.args.low (c.args.view.now.base + c.args.from) (drop c.args.from c.args.view.now.src.now) _ _ _ _ _ b c.if-first-low.false l c.in_err-end.ensures.is.is);
-      held = made_bad _ _ _ z;
-      long = made_bad _ _ _ z;
-      small = made_bad _ _ _ z;
+      is = sub_fits c.args.low (view.base + view.at.place) (drop view.at.place view.at.src.now) _ _ _ _ _ b.is c.if-first-low.false l e.is.is;
+      within = (omega (arith, b.within.0, e.is.within.0), e.is.within.1);
     }
 
-pub returns : goal.returns
-returns c =
-    let b = row_placed (λ x. x) sub_line _ c.args.from c.args.view.now.base _ c.subsection_line.ensures.is _ c.in_ok-first.ensures in
-    let w = row_within (λ x. x) sub_line _ c.args.from c.args.view.now.base _ c.subsection_line.ensures.is _ c.in_ok-first.ensures in
-    let e = c.in_ok-end.ensures in
+pub returns-clause-long : goal.returns-clause-long
+returns-clause-long c =
+    let view = c.args.view in
+    let b = row_read (λ x. x) sub_line view.base view.at.src.now view.at.place _ c.subsection_line.ensures.is _ c.in_ok-first.ensures in
     let l : 1 ≤ c.in_ok-first.count = omega (arith, c.if-count-eq0.false) in
-    record {
-      is = record {
-        is = sub_fits c.args.low (c.args.view.now.base + c.args.from) (drop c.args.from c.args.view.now.src.now) _ _ _ _ _ b c.if-first-low.false l e.is.is;
-        within = (omega (arith, w.0, e.is.within.0), e.is.within.1);
-      };
-      held = e.held;
-      long = omega (arith, w.0, e.long);
-      small = both_below (10 ^ 10) _ _ _ _ c.in_ok-first.ensures c.subsection_line.ensures.small;
-    }
+    omega (arith, b.within.0, c.in_ok-end.ensures.long, c.to.ensures.place)
+
+pub returns-clause-small : goal.returns-clause-small
+returns-clause-small c = both_below (10 ^ 10) _ _ _ _ c.in_ok-first.ensures c.subsection_line.ensures.small

@@ -1,49 +1,45 @@
 use Rattle.std.proofs.Common.{codes, arith}
 use Rattle.format.specs.Lines.{exact_line, number_line}
 use Rattle.format.specs.Sections.{tail}
-use Rattle.opening.proofs.Answered.{then_on, then_cut, line_placed, line_within, ends_from}
-use Rattle.opening.proofs.Readings.{exit_is}
+use Rattle.opening.proofs.Answered.{then_on, then_cut, passed_bad, line_read, line_there, ends_from}
 use Rattle.opening.proofs.view.View.tail.Goals as goal
 
-pub number_line-requires : goal.number_line-requires
-number_line-requires c = (line_within (exact_line (codes "startxref")) _ c.args.from c.args.self.now.base _ c.exact_line.ensures _ c.in_ok-number.ensures).1
+pub to-second-requires : goal.to-second-requires
+to-second-requires c =
+    let here = c.args.self in
+    (line_read (exact_line (codes "startxref")) here.base here.at.src.now here.at.place _ c.exact_line.ensures _ c.in_ok-number.ensures).within.1
 
-pub placed-requires-2 : goal.placed-requires-2
-placed-requires-2 c = (line_within (exact_line (codes "startxref")) _ c.args.from c.args.self.now.base _ c.exact_line.ensures _ c.in_ok-number.ensures).1
+pub to-last-requires : goal.to-last-requires
+to-last-requires c =
+    let second = c.to-second in
+    rw second.ensures.src at (line_read (number_line c.args.offset) second.result.base second.result.at.src.now second.result.at.place _ c.number_line.ensures _ c.in_ok-mark.ensures).within.1
 
-pub exact_line-requires-2 : goal.exact_line-requires-2
-exact_line-requires-2 c = (line_within (number_line c.args.offset) _ c.in_ok-number.number c.args.self.now.base _ c.number_line.ensures _ c.in_ok-mark.ensures).1
-
-pub placed-requires-3 : goal.placed-requires-3
-placed-requires-3 c = (line_within (number_line c.args.offset) _ c.in_ok-number.number c.args.self.now.base _ c.number_line.ensures _ c.in_ok-mark.ensures).1
-
-pub returns-in_err-number : goal.returns-in_err-number
+pub returns-in_err-number-clause-is : goal.returns-in_err-number-clause-is
 unfolding tail
-returns-in_err-number c =
-    let z = exit_is c.from_residual.result c.in_err-number.field-0.0 c.from_residual.ensures.1 in
-    rw z (record {
-      is = then_cut _ _ (line_placed (exact_line (codes "startxref")) _ c.args.from c.args.self.now.base _ c.exact_line.ensures _ c.in_err-number.ensures);
-      within = tt;
-    })
+returns-in_err-number-clause-is c =
+    let here = c.args.self in
+    let first = line_read (exact_line (codes "startxref")) here.base here.at.src.now here.at.place _ c.exact_line.ensures _ c.in_err-number.ensures in
+    passed_bad here.base here.at.src.now _ c.in_err-number.field-0.0 c.from_residual.ensures.1 (then_cut _ _ first.is)
 
-pub returns-in_err-mark : goal.returns-in_err-mark
+pub returns-in_err-mark-clause-is : goal.returns-in_err-mark-clause-is
 unfolding tail
-returns-in_err-mark c =
-    let z = exit_is c.from_residual-in_err-mark.result c.in_err-mark.field-0.0 c.from_residual-in_err-mark.ensures.1 in
-    rw z (record {
-      is = then_on _ _ (line_placed (exact_line (codes "startxref")) _ c.args.from c.args.self.now.base _ c.exact_line.ensures _ c.in_ok-number.ensures)
-          (then_cut _ _ (line_placed (number_line c.args.offset) _ c.in_ok-number.number c.args.self.now.base _ c.number_line.ensures _ c.in_err-mark.ensures));
-      within = tt;
-    })
+returns-in_err-mark-clause-is c =
+    let here = c.args.self in
+    let to = c.to-second in
+    let first = line_read (exact_line (codes "startxref")) here.base here.at.src.now here.at.place _ c.exact_line.ensures _ c.in_ok-number.ensures in
+    let second = line_there to.ensures.base to.ensures.src to.ensures.place (line_read (number_line c.args.offset) to.result.base to.result.at.src.now to.result.at.place _ c.number_line.ensures _ c.in_err-mark.ensures) in
+    passed_bad here.base here.at.src.now _ c.in_err-mark.field-0.0 c.from_residual-in_err-mark.ensures.1 (then_on _ _ first.is (then_cut _ _ second.is))
 
 pub returns : goal.returns
 unfolding tail
 returns c =
-    let w = line_within (exact_line (codes "startxref")) _ c.args.from c.args.self.now.base _ c.exact_line.ensures _ c.in_ok-number.ensures in
-    let v = line_within (number_line c.args.offset) _ c.in_ok-number.number c.args.self.now.base _ c.number_line.ensures _ c.in_ok-mark.ensures in
+    let here = c.args.self in
+    let to = c.to-second in
+    let on = c.to-last in
+    let first = line_read (exact_line (codes "startxref")) here.base here.at.src.now here.at.place _ c.exact_line.ensures _ c.in_ok-number.ensures in
+    let second = line_there to.ensures.base to.ensures.src to.ensures.place (line_read (number_line c.args.offset) to.result.base to.result.at.src.now to.result.at.place _ c.number_line.ensures _ c.in_ok-mark.ensures) in
+    let third = line_there on.ensures.base on.ensures.src on.ensures.place (line_read (exact_line (codes "%%EOF")) on.result.base on.result.at.src.now on.result.at.place _ c.exact_line-2.ensures _ c.placed-3.ensures) in
     record {
-      is = then_on _ _ (line_placed (exact_line (codes "startxref")) _ c.args.from c.args.self.now.base _ c.exact_line.ensures _ c.in_ok-number.ensures)
-          (then_on _ _ (line_placed (number_line c.args.offset) _ c.in_ok-number.number c.args.self.now.base _ c.number_line.ensures _ c.in_ok-mark.ensures)
-          (line_placed (exact_line (codes "%%EOF")) _ c.in_ok-mark.mark c.args.self.now.base _ c.exact_line-2.ensures _ c.placed-3.ensures));
-      within = ends_from _ _ c.in_ok-mark.mark _ (omega (arith, w.0, v.0)) (line_within (exact_line (codes "%%EOF")) _ c.in_ok-mark.mark c.args.self.now.base _ c.exact_line-2.ensures _ c.placed-3.ensures);
+      is = then_on _ _ first.is (then_on _ _ second.is third.is);
+      within = ends_from _ _ c.in_ok-mark.mark _ (omega (arith, first.within.0, second.within.0)) third.within;
     }
