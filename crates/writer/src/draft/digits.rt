@@ -5,7 +5,7 @@ ghost use Rattle.writer.specs.Drafts.{Adds, Room};
 
 use super::Draft;
 
-// The last digit of a number, as a byte.
+// The last digit of a number, as a byte. Here and in `decimal`, `as` is proved to lose nothing, and `try_from` would answer an error that never comes.
 fn last_digit(n: u64) -> u8
     ensures { result ≡ 48 + n % 10 }
 {

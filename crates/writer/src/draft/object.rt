@@ -11,8 +11,8 @@ impl Draft {
         requires { Room self.old (length (framed_bytes number generation body.now)) }
         ensures { Adds self.old (framed_bytes number generation body.now) self.new }
     {
-        self.number(b"", number as u64, b" ");
-        self.number(b"", generation as u64, b" obj\n");
+        self.number(b"", u64::from(number), b" ");
+        self.number(b"", u64::from(generation), b" obj\n");
         self.text(body);
         self.object_end();
     }

@@ -34,7 +34,7 @@ impl Draft {
     {
         self.ten_digits(field);
         self.byte(b' ');
-        self.padded(5, generation as u64);
+        self.padded(5, u64::from(generation));
         self.byte(b' ');
         self.byte(mark);
         self.entry_end();
@@ -72,11 +72,11 @@ impl Draft {
         requires room { Room self.old (length (line_bytes first count)) }
         ensures { Adds self.old (line_bytes first count) self.new }
     {
-        self.number(b"", first as u64, b" ");
+        self.number(b"", u64::from(first), b" ");
         self.number(b"", count, b"\n");
     }
 
-    // A run: its line and its entries.
+    // A run: its line and its entries. `usize` has no `From`: `as` is proved to lose nothing.
     pub fn run(&mut self, first: u32, all: &[Entry])
         requires small { length all.now < 10 ^ 10 }
         requires room { Room self.old (length (run_on (first, slots_of all.now) [])) }
@@ -110,7 +110,7 @@ impl Draft {
         requires { Room self.old (length (size_bytes size)) }
         ensures { Adds self.old (size_bytes size) self.new }
     {
-        self.number(b"/Size ", size as u64, b"\n");
+        self.number(b"/Size ", u64::from(size), b"\n");
     }
 
     // A trailer's Prev: where the section before starts.

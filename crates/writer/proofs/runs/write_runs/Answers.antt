@@ -1,4 +1,4 @@
-use Rattle.std.proofs.Common.{List, [], arith, subst}
+use Rattle.std.proofs.Common.{List, [], length, ap, arith, subst}
 use Rattle.format.specs.Writing.{runs, runs_on}
 use Rattle.writer.specs.declared.plan.Planned.{Planned}
 use Rattle.writer.specs.Drafts.{Adds}
@@ -15,8 +15,9 @@ write_from-n-requires c =
     let g = i.1.grown in
     let l = i.1.limit in
     let f = front_within c.as_slice-numbers.result.now c.loop-n.n in
-    let p = c.args.plan.now.within in
-    let q = c.as_slice-numbers.ensures.len in
+    let p = c.args.plan.now.few in
+    let k = c.args.plan.now.items.ok in
+    let q = ap length c.as_slice-numbers.ensures in
     let r = c.requires in
     record { size = omega arith; within = c.loop-n-test.true; room = omega arith }
 
@@ -30,10 +31,11 @@ pub returns : goal.returns
 returns c =
     let i = c.loop-n.invariant in
     let g = i.1.grown in
-    let p = c.args.plan.now.within in
-    let q = c.as_slice-numbers.ensures.len in
+    let p = c.args.plan.now.few in
+    let k = c.args.plan.now.items.ok in
+    let q = ap length c.as_slice-numbers.ensures in
     let P : List Planned → Type 0 = λ ps. Adds c.args.draft.now (runs_on (runs 0 (listed_at ps 0)) []) c.loop-n.draft in
     record {
-      adds = subst P c.as_slice-numbers.ensures.value (runs_done c.as_slice-numbers.result.now c.loop-n.n c.args.draft.now c.loop-n.draft c.loop-n-test.false i.1);
+      adds = subst P c.as_slice-numbers.ensures (runs_done c.as_slice-numbers.result.now c.loop-n.n c.args.draft.now c.loop-n.draft c.loop-n-test.false i.1);
       grown = omega arith;
     }

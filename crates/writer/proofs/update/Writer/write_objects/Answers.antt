@@ -1,14 +1,14 @@
-use Rattle.std.proofs.Common.{refl, ◌∙◌, arith}
+use Rattle.std.proofs.Common.{length, refl, ap, ◌∙◌, arith}
 use Rattle.writer.specs.Helds.{update_of}
 use Rattle.writer.proofs.Weights.{weight_step, weight_bound}
 use Rattle.writer.proofs.Written.{halfway_start, halfway_step, halfway_all}
-use Rattle.writer.proofs.numbers.write_objects.Goals as goal
+use Rattle.writer.proofs.update.Writer.write_objects.Goals as goal
 
 pub loop-n-init : goal.loop-n-init
 loop-n-init c =
     let b = weight_bound 0 c.args.held.now in (
-      λ file. halfway_start file c.args.newest.now.cells.now (update_of c.args.held.now) c.args.newest.now.len c.args.size c.args.draft.now c.clear.new.self c.requires.empty c.clear.ensures.rows,
-      c.clear.ensures.count,
+      λ file. halfway_start file c.args.newest.now.cells.now (update_of c.args.held.now) c.args.newest.now.len c.args.size c.args.self.now.draft c.clear.new.self c.requires.empty c.clear.ensures,
+      ap length c.clear.ensures,
       omega arith,
       refl,
     )
@@ -24,7 +24,7 @@ loop-n-preserved c =
     let i = c.loop-n.invariant in
     let w = weight_step c.loop-n.n (update_of c.args.held.now) in
     let e = c.write_number.ensures in (
-      λ file. halfway_step file c.args.newest.now.cells.now (update_of c.args.held.now) c.args.newest.now.len c.args.size c.loop-n.n c.args.draft.now c.loop-n.draft c.write_number.new.draft c.loop-n.plan c.write_number.new.plan c.loop-n-test.true (i.0 file) (e.writes file),
+      λ file. halfway_step file c.args.newest.now.cells.now (update_of c.args.held.now) c.args.newest.now.len c.args.size c.loop-n.n c.args.self.now.draft c.loop-n.self.draft c.write_number.new.self.draft c.loop-n.self.plan c.write_number.new.self.plan c.loop-n-test.true (i.0 file) (e.writes file),
       omega arith,
       omega arith,
       e.limit ∙ i.3,
@@ -34,7 +34,7 @@ pub returns : goal.returns
 returns c =
     let i = c.loop-n.invariant in
     record {
-      writes = λ file. halfway_all file c.args.newest.now.cells.now (update_of c.args.held.now) c.args.newest.now.len c.args.size c.loop-n.n c.args.draft.now c.loop-n.draft c.loop-n.plan c.loop-n-test.false i.3 (i.0 file);
+      writes = λ file. halfway_all file c.args.newest.now.cells.now (update_of c.args.held.now) c.args.newest.now.len c.args.size c.loop-n.n c.args.self.now.draft c.loop-n.self.draft c.loop-n.self.plan c.loop-n-test.false i.3 (i.0 file);
       count = omega arith;
       grown = omega arith;
     }

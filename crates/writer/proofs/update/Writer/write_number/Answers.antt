@@ -1,4 +1,4 @@
-use Rattle.std.proofs.Common.{◌+◌, [], ◌∷◌, ◌++◌, ap, ◌∙◌, arith}
+use Rattle.std.proofs.Common.{◌+◌, [], ◌∷◌, ◌++◌, length, ap, ◌∙◌, arith, length-append}
 use Rattle.std.specs.Option.{option_map}
 use Rattle.entries.specs.Cells.{state_in, states_in}
 use Rattle.format.specs.Revisions.{find, nth}
@@ -9,7 +9,7 @@ use Rattle.writer.specs.Helds.{pool_of, update_of}
 use Rattle.writer.specs.Plans.{change_bytes, room_for, rows_of}
 use Rattle.writer.proofs.Joined.{adds_as}
 use Rattle.writer.proofs.Planning.{bytes_by_change, change_fits, planned_by, small_generation, state_by}
-use Rattle.writer.proofs.numbers.write_number.Goals as goal
+use Rattle.writer.proofs.update.Writer.write_number.Goals as goal
 
 pub write_change-requires : goal.write_change-requires
 write_change-requires c =
@@ -39,13 +39,13 @@ returns c =
           record {
             bytes = adds_as c.write_change.ensures
                 (ap (change_bytes n g) c.find-change.ensures.is
-                ∙ bytes_by_change n g (c.args.newest.now.len + count c.args.draft.now) (nth n (states_in file cs)) (find n u) (c.generation_of.ensures file ∙ ap entry_gen s));
-            rows = c.push.ensures.rows
-                ∙ ap (λ x. rows_of c.args.plan.now ++ x ∷ [])
+                ∙ bytes_by_change n g (c.args.newest.now.len + count c.args.self.now.draft) (nth n (states_in file cs)) (find n u) (c.generation_of.ensures file ∙ ap entry_gen s));
+            rows = c.push.ensures
+                ∙ ap (λ x. rows_of c.args.self.now.plan ++ x ∷ [])
                 (c.planned.ensures file (pool_of h)
                 ∙ planned_by _ _ _ _ _ _ (ap (λ k. c.args.newest.now.len + k) c.len.ensures) s c.find-change.ensures.is);
           };
-      count = c.push.ensures.count;
+      count = ap length c.push.ensures ∙ length-append (rows_of c.args.self.now.plan) _;
       grown = omega arith;
       limit = c.write_change.ensures.limit;
     }

@@ -1,7 +1,7 @@
 use Rattle.std.proofs.Common.{arith}
 use Rattle.writer.proofs.Joined.{adds_then}
 use Rattle.writer.proofs.Lengths.{size_at_most, prev_at_most, close_at_most}
-use Rattle.writer.proofs.update.bytes.write_tail.Goals as goal
+use Rattle.writer.proofs.update.section.write_tail.Goals as goal
 
 pub size-requires : goal.size-requires
 size-requires c = let s = size_at_most c.args.size (omega arith) in let r = c.requires.room in omega arith

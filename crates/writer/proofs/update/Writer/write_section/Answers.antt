@@ -7,7 +7,7 @@ use Rattle.writer.specs.Plans.{plan_count, rows_of}
 use Rattle.writer.proofs.Copied.{read_some}
 use Rattle.writer.proofs.Joined.{adds_then, adds_as}
 use Rattle.writer.proofs.Pieces.{section_parts}
-use Rattle.writer.proofs.update.bytes.write_section.Goals as goal
+use Rattle.writer.proofs.update.Writer.write_section.Goals as goal
 
 pub copy_entries-requires-clause-readable : goal.copy_entries-requires-clause-readable
 copy_entries-requires-clause-readable c = read_some c.args.newest.now.window.now c.args.newest.now.inside c.args.newest.now.readable
@@ -19,8 +19,8 @@ returns c = λ es h.
     (adds_then c.section_line.ensures
     (adds_then c.write_runs.ensures.adds
     (adds_then c.trailer_lines.ensures
-    (adds_then (c.copy_entries.ensures.adds es h) (subst P c.len.ensures c.write_tail.ensures)))))
-    (sym (section_parts c.args.at (runs 0 (listed_at (rows_of c.args.plan.now) 0)) es (plan_count c.args.plan.now) (Some c.args.newest.now.offset)))
+    (adds_then (c.copy_entries.ensures.adds es h) (subst P c.len-size.ensures c.write_tail.ensures)))))
+    (sym (section_parts c.args.at (runs 0 (listed_at (rows_of c.args.self.now.plan) 0)) es (plan_count c.args.self.now.plan) (Some c.args.newest.now.offset)))
 
 pub write_tail-requires : goal.write_tail-requires
 write_tail-requires c =
@@ -41,3 +41,14 @@ write_tail-requires c =
     let o = c.args.newest.now.placed in
     let m = c.requires.room in
     record { prev = omega arith; at = c.requires.at; room = omega arith }
+
+pub invariant_of-self : goal.invariant_of-self
+invariant_of-self c =
+    let y = read_some c.args.newest.now.window.now c.args.newest.now.inside c.args.newest.now.readable in
+    let a = c.section_line.ensures.limit in
+    let b = c.write_runs.ensures.adds.limit in
+    let d = c.trailer_lines.ensures.limit in
+    let e = (c.copy_entries.ensures.adds y.0 y.1).limit in
+    let f = c.write_tail.ensures.limit in
+    let m = c.args.self.now.room in
+    omega arith
