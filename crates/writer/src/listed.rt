@@ -37,6 +37,7 @@ fn next_free(plan: &[Planned], from: usize) -> u64
 }
 
 // The entry of a number that stays free, if it is listed: 0 is, and each whose next free number changes.
+#[tactic(auto, using(crate::proofs::Listing::same_link, crate::proofs::Listing::new_link, crate::proofs::Listing::zero_link))]
 fn vacant_entry(n: usize, link: u64, generation: u32, next: u64) -> Option<Entry>
     ensures { option_map slot_of result ≡ entry_for n link (cell_of (Planned.Vacant generation next)) }
 {

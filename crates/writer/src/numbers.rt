@@ -18,17 +18,18 @@ use crate::plan::Planned;
 use entries::cell::Cell;
 
 // The generation of a number's entry, 0 if it has none.
+#[tactic(auto, unfolding(format::specs::Writing::entry_gen))]
 pub(crate) fn generation_of(before: Option<Cell>) -> u32
     ensures { (file : Bytes) → result ≡ entry_gen (option_map (state_in file) before) }
 {
     match before {
-        Some(Cell::Used { generation, .. }) => generation,
-        Some(Cell::Free { generation, .. }) => generation,
+        Some(Cell::Used { generation, .. } | Cell::Free { generation, .. }) => generation,
         None => 0,
     }
 }
 
 // What becomes of a number that has a change, given its generation before and where the next object goes.
+#[tactic(auto, using(crate::proofs::Planning::body_planned, crate::proofs::Planning::removed_planned))]
 fn changed(generation: u32, content: Content, at: u64) -> Planned
     requires { generation ≤ 65535 }
     ensures { (file pool : Bytes) (before : Option Cell) → generation ≡ entry_gen (option_map (state_in file) before) → result ≡ planned_of (cell at (option_map (state_in file) before) (Some (content_in pool content))) }
@@ -45,6 +46,7 @@ fn changed(generation: u32, content: Content, at: u64) -> Planned
 }
 
 // What becomes of a number that has none.
+#[tactic(auto, unfolding(format::specs::Writing::cell))]
 fn unchanged(before: Option<Cell>) -> Planned
     ensures { (file : Bytes) (at : ℕ) → result ≡ planned_of (cell at (option_map (state_in file) before) None) }
 {

@@ -28,6 +28,7 @@ impl Draft {
     }
 
     // A number below 10,000,000,000 in decimal, between bytes.
+    #[tactic(auto, using(crate::proofs::Joined::adds_then))]
     pub fn number(&mut self, before: &[u8], n: u64, after: &[u8])
         requires small { n < 10 ^ 10 }
         requires room { Room self.old (length before.now + length (decimal n) + length after.now) }
@@ -39,6 +40,7 @@ impl Draft {
     }
 
     // The last `k` digits of a number, with zeros in front.
+    #[tactic(auto, using(sections::proofs::Digits::padded_length))]
     pub fn padded(&mut self, k: usize, n: u64)
         requires { Room self.old k }
         ensures { Adds self.old (padded k n []) self.new }

@@ -83,6 +83,7 @@ impl Held {
     }
 
     // Puts a body, where the number has no change yet and there is room, so that neither list asks for memory.
+    #[tactic(auto, using(crate::proofs::Changes::room))]
     pub fn put(&mut self, n: usize, bytes: &[u8])
         requires free { find n (update_of self.old) ≡ None }
         requires room { has_room (update_of self.old) (length bytes.now) ≡ true }
@@ -96,6 +97,7 @@ impl Held {
     }
 
     // Removes an object, where the number has no change yet and there is room.
+    #[tactic(auto, using(crate::proofs::Changes::room))]
     pub fn remove(&mut self, n: usize)
         requires free { find n (update_of self.old) ≡ None }
         requires room { has_room (update_of self.old) 0 ≡ true }

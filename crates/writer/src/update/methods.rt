@@ -32,7 +32,7 @@ impl Writer {
         self.draft.clear();
         let old = newest.cells.len();
         self.write_objects(newest, held, old + held.new_numbers(old));
-        let objects = self.draft.len();
+        let objects = self.len();
         self.write_section(newest, newest.len + objects);
         objects
     }

@@ -16,6 +16,7 @@ use crate::runs::write_runs;
 use crate::trailer::copy_entries;
 
 // The end of a section that starts at an offset: Size, Prev and the tail.
+#[tactic(auto, using(crate::proofs::Lengths::size_at_most, crate::proofs::Lengths::prev_at_most, crate::proofs::Lengths::close_at_most, crate::proofs::Joined::adds_then))]
 fn write_tail(draft: &mut Draft, size: u32, prev: u64, at: u64)
     requires prev { prev < 10 ^ 10 }
     requires at { at < 10 ^ 10 }
@@ -30,6 +31,7 @@ fn write_tail(draft: &mut Draft, size: u32, prev: u64, at: u64)
 impl Writer {
     // A section that starts at an offset: the entries that the plan lists, the entries copied from the newest trailer, and its end.
     // `usize` has no `From`: `as` is proved to lose nothing.
+    #[tactic(auto, using(crate::proofs::Copied::read_some))]
     pub(super) fn write_section(&mut self, newest: &Newest, at: usize)
         requires at { at < 10 ^ 10 }
         requires room { Room self.old.draft most_section_bytes }

@@ -7,14 +7,6 @@ use Rattle.writer.specs.Changes.{update_in, place_for}
 use Rattle.writer.proofs.Changes.{body_put, bytes_with, new_within, room, still_within}
 use Rattle.writer.proofs.held.Held.put.Goals as goal
 
-pub set-requires : goal.set-requires
-set-requires c =
-    let h = c.args.self.now in
-    let r = room (length c.args.bytes.now) h.bodies.items h.changes.items c.requires.room in
-    let x = h.changes.ok in
-    let p = h.places in
-    omega arith
-
 pub invariant_of-self : goal.invariant_of-self
 unfolding body_length
 invariant_of-self c =

@@ -1,4 +1,4 @@
-use Rattle.std.proofs.Common.{◌≡◌, ◌+◌, [], ◌++◌, length, Some, ap, ◌∙◌, arith}
+use Rattle.std.proofs.Common.{◌≡◌, ◌+◌, ◌++◌, length, Some, ap, ◌∙◌}
 use Rattle.format.specs.Writing.{object_bytes, runs, section_bytes, update_objects}
 use Rattle.writer.specs.Drafts.{written}
 use Rattle.writer.specs.Helds.{update_of}
@@ -6,19 +6,6 @@ use Rattle.writer.specs.Listing.{listed_at}
 use Rattle.writer.specs.Plans.{all_made, plan_count, rows_of}
 use Rattle.writer.proofs.Updates.{size_is_fact, objects_are, section_is, update_is}
 use Rattle.writer.proofs.update.Writer.write.Goals as goal
-
-pub write_section-requires : goal.write_section-requires
-write_section-requires c =
-    let a = c.clear.ensures.limit in
-    let b = (c.write_objects.ensures.writes []).bytes.limit in
-    let g = c.write_objects.ensures.grown in
-    let n = c.write_objects.ensures.count in
-    let k = c.len-objects.ensures in
-    let f = c.new_numbers.ensures.few in
-    let s = c.args.newest.now.small in
-    let m = c.args.self.now.room in
-    let x = c.args.newest.now.short in
-    record { at = omega arith; room = omega arith }
 
 pub returns : goal.returns
 returns c = λ file v t p read.
@@ -33,11 +20,7 @@ returns c = λ file v t p read.
     let e = size_is_fact file cs v u size t (ap (λ k. length cs + k) c.new_numbers.ensures.is) in
     let o : object_bytes 0 (all_made file cs u len size) ≡ update_objects len v u = objects_are file cs v u len size t e in
     let first : written c.write_objects.new.self.draft ≡ update_objects len v u = w.bytes.bytes ∙ ap (λ xs. xs ++ object_bytes 0 (all_made file cs u len size)) c.clear.ensures.bytes ∙ o in
-    let g = w.bytes.grown in
-    let z = c.clear.ensures.count in
-    let k = c.len-objects.ensures in
-    let q = ap length o in
-    let count_is : objects ≡ length (update_objects len v u) = omega arith in
+    let count_is : objects ≡ length (update_objects len v u) = c.len-objects.ensures ∙ ap length first in
     let rows : plan ≡ _ = w.rows in
     let many : plan_count c.write_objects.new.self.plan ≡ size = c.write_objects.ensures.count in
     let section = section_is file cs v u len size (len + objects) c.args.newest.now.offset plan t e rows (ap (λ i. len + i) count_is) p in (

@@ -13,11 +13,11 @@ loop-n-init c =
       refl,
     )
 
-pub write_number-requires : goal.write_number-requires
-write_number-requires c =
+pub write_number-requires-clause-room : goal.write_number-requires-clause-room
+write_number-requires-clause-room c =
     let i = c.loop-n.invariant in
     let w = weight_step c.loop-n.n (update_of c.args.held.now) in
-    record { few = omega arith; number = omega arith; room = omega arith }
+    omega arith
 
 pub loop-n-preserved : goal.loop-n-preserved
 loop-n-preserved c =
@@ -30,11 +30,7 @@ loop-n-preserved c =
       e.limit ∙ i.3,
     )
 
-pub returns : goal.returns
-returns c =
+pub returns-clause-writes : goal.returns-clause-writes
+returns-clause-writes c = λ file.
     let i = c.loop-n.invariant in
-    record {
-      writes = λ file. halfway_all file c.args.newest.now.cells.now (update_of c.args.held.now) c.args.newest.now.len c.args.size c.loop-n.n c.args.self.now.draft c.loop-n.self.draft c.loop-n.self.plan c.loop-n-test.false i.3 (i.0 file);
-      count = omega arith;
-      grown = omega arith;
-    }
+    halfway_all file c.args.newest.now.cells.now (update_of c.args.held.now) c.args.newest.now.len c.args.size c.loop-n.n c.args.self.now.draft c.loop-n.self.draft c.loop-n.self.plan c.loop-n-test.false i.3 (i.0 file)

@@ -9,9 +9,6 @@ use Rattle.writer.proofs.Joined.{adds_then, adds_as}
 use Rattle.writer.proofs.Pieces.{section_parts}
 use Rattle.writer.proofs.update.Writer.write_section.Goals as goal
 
-pub copy_entries-requires-clause-readable : goal.copy_entries-requires-clause-readable
-copy_entries-requires-clause-readable c = read_some c.args.newest.now.window.now c.args.newest.now.inside c.args.newest.now.readable
-
 pub returns : goal.returns
 returns c = λ es h.
     let P : ℕ → Type 0 = λ n. Adds c.copy_entries.new.draft (size_bytes n ++ (prev_bytes (Some c.args.newest.now.offset) ++ close_bytes c.args.at)) c.write_tail.new.draft in
@@ -22,8 +19,8 @@ returns c = λ es h.
     (adds_then (c.copy_entries.ensures.adds es h) (subst P c.len-size.ensures c.write_tail.ensures)))))
     (sym (section_parts c.args.at (runs 0 (listed_at (rows_of c.args.self.now.plan) 0)) es (plan_count c.args.self.now.plan) (Some c.args.newest.now.offset)))
 
-pub write_tail-requires : goal.write_tail-requires
-write_tail-requires c =
+pub write_tail-requires-clause-room : goal.write_tail-requires-clause-room
+write_tail-requires-clause-room c =
     let y = read_some c.args.newest.now.window.now c.args.newest.now.inside c.args.newest.now.readable in
     let a = c.section_line.ensures in
     let b = c.write_runs.ensures in
@@ -40,7 +37,7 @@ write_tail-requires c =
     let w = c.args.newest.now.narrow in
     let o = c.args.newest.now.placed in
     let m = c.requires.room in
-    record { prev = omega arith; at = c.requires.at; room = omega arith }
+    omega arith
 
 pub invariant_of-self : goal.invariant_of-self
 invariant_of-self c =
