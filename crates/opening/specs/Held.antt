@@ -1,14 +1,20 @@
 -- The rows that were read of a section.
-use Rattle.std.specs.Prelude.{ℕ, ◌*◌, ◌≤◌, List, length, vec_items}
+use Rattle.std.specs.Prelude.{ℕ, ◌*◌, ◌≤◌, List, length}
 use Rattle.entries.specs.declared.entry.Row.{Row}
+use Rattle.entries.specs.declared.reserved.Reserved.{Reserved}
+use Rattle.entries.specs.Reserving.{items_of}
 use Rattle.entries.specs.Rows.{rows_of}
 use Rattle.format.specs.Bytes.{Bytes}
 use Rattle.format.specs.Chain.{window_bytes}
 use Rattle.format.specs.Sections.{Listed}
-use Rattle.opening.specs.declared.rows.Rows.{Rows}
+use Rattle.opening.specs.Figures.{most_rows}
+
+-- the list that they stand in
+abbrev pub Rows : Type 0
+Rows = Reserved Row most_rows
 
 abbrev pub rows_held : Rows → List Row
-rows_held rows = vec_items rows.items
+rows_held rows = items_of rows
 
 -- what they list
 abbrev pub listed_by : Rows → Listed

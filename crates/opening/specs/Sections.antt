@@ -5,9 +5,8 @@ use Rattle.format.specs.Objects.{no_entries, entries, object_by}
 use Rattle.format.specs.Revisions.{one_from_zero}
 use Rattle.format.specs.Sections as format
 use Rattle.format.specs.Strings.{turns}
-use Rattle.opening.specs.declared.rows.Rows.{Rows}
 use Rattle.opening.specs.declared.section.Section.{Section}
-use Rattle.opening.specs.Held.{listed_by}
+use Rattle.opening.specs.Held.{Rows, listed_by}
 
 -- The section that starts where the window src does, at the place base of the file: what the code kept of it, and the rows it holds.
 pub record SectionRead (base : ℕ) (src : Bytes) (s : Section) (rows : Rows) : Type 0 where

@@ -6,7 +6,7 @@ use Rattle.format.specs.Bytes.{Bytes}
 use Rattle.format.specs.Chain.{Answer, also, must, Link, below, before, link, walk}
 use Rattle.format.specs.Failures.{chain_fault}
 use Rattle.format.specs.Revisions.{most_revisions}
-use Rattle.opening.specs.declared.rows.Rows.{Rows}
+use Rattle.opening.specs.Held.{Rows}
 use Rattle.locality.proofs.Cases.{cases, cases_o}
 use Rattle.tables.proofs.Answered.{err_ok}
 use Rattle.tables.proofs.Finds.{some_none}

@@ -16,8 +16,7 @@ use Rattle.entries.specs.declared.revision.Revision.{Revision}
 use Rattle.entries.specs.Cells.{states_in, AllEndBy}
 use Rattle.entries.specs.Rows.{rows_of}
 use Rattle.entries.specs.Tables.{bare, cells_of, revision_in, Stacked, Within, TablesOf}
-use Rattle.opening.specs.declared.rows.Rows.{Rows}
-use Rattle.opening.specs.Held.{rows_held}
+use Rattle.opening.specs.Held.{Rows, rows_held}
 use Rattle.records.specs.declared.link.Link.{Link}
 use Rattle.records.specs.Laid.{laid, states_by}
 use Rattle.records.specs.Linked.{told_by, LinkRead}

@@ -9,10 +9,9 @@ use Rattle.format.specs.Chain as format
 use Rattle.format.specs.Failures.{chain_fault, section_fault}
 use Rattle.format.specs.Objects.{Entries, no_entries, entries, object_by}
 use Rattle.format.specs.Strings.{turns}
-use Rattle.opening.specs.declared.rows.Rows.{Rows}
 use Rattle.opening.specs.declared.section.Section.{Section}
 use Rattle.opening.specs.declared.told.Told.{Told}
-use Rattle.opening.specs.Held.{listed_by}
+use Rattle.opening.specs.Held.{Rows, listed_by}
 use Rattle.opening.specs.Sections.{SectionRead}
 use Rattle.records.specs.Linked.{told_by, LinkRead}
 use Rattle.records.specs.Links.{link_at}

@@ -5,9 +5,8 @@ use Rattle.format.specs.Bytes.{Bytes}
 use Rattle.format.specs.Chain as format
 use Rattle.format.specs.Revisions.{one_from_zero}
 use Rattle.format.specs.Sections.{listed}
-use Rattle.opening.specs.declared.rows.Rows.{Rows}
 use Rattle.opening.specs.declared.told.Told.{Told}
-use Rattle.opening.specs.Held.{listed_by}
+use Rattle.opening.specs.Held.{Rows, listed_by}
 use Rattle.records.specs.declared.link.Link.{Link}
 use Rattle.records.specs.Links.{link_at}
 

@@ -6,8 +6,8 @@ use Rattle.format.specs.Chain.{section_in, window_bytes}
 use Rattle.format.specs.Objects.{no_entries, entries, object_by}
 use Rattle.format.specs.Sections.{Section}
 use Rattle.format.specs.Strings.{turns}
-use Rattle.opening.specs.declared.rows.Rows.{Rows}
 use Rattle.opening.specs.declared.section.Section as Read
+use Rattle.opening.specs.Held.{Rows}
 use Rattle.opening.specs.Sections.{SectionRead}
 use Rattle.records.specs.declared.scratch.Scratch.{Scratch}
 use Rattle.records.specs.Windows.{seen_in}

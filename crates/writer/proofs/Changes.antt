@@ -1,12 +1,12 @@
 -- The changes kept, and the update that they are.
-use Rattle.std.proofs.Common.{◌≡◌, ℕ, zero, suc, ◌+◌, ◌-◌, ◌<◌, ◌≤◌, Bool, true, false, cond, eqb, ltb, leb, List, [], ◌∷◌, ◌++◌, map, length, take, drop, IfSome, Some, None, sym, refl, ap, ◌∙◌, arith, length-drop}
+use Rattle.std.proofs.Common.{◌≡◌, ℕ, zero, suc, ◌+◌, ◌-◌, ◌<◌, ◌≤◌, true, false, eqb, ltb, leb, List, [], ◌∷◌, ◌++◌, map, length, take, drop, IfSome, Some, None, sym, refl, ap, ◌∙◌, arith, length-drop}
 use lib.ListN.{length-map}
 use Rattle.std.specs.Option.{option_map, unwrap_or}
 use Rattle.std.specs.List.{insert, position, position_or_len, count_by}
 use Rattle.std.specs.List.{find as first}
 use Rattle.std.proofs.lemmas.List.Recursion.{is_count_by, is_position_or_len}
 use Rattle.std.proofs.lemmas.List.{drop_at, drop-append-le, take-append-le, take_all}
-use Rattle.std.proofs.lemmas.Bool.{ltb-true, ltb-false, leb-true, leb-false, lt-ltb, le-ltb, le-leb, lt-leb, and_parts, and_from, cond-true}
+use Rattle.std.proofs.lemmas.Bool.{ltb-true, ltb-false, leb-true, leb-false, lt-ltb, le-ltb, le-leb, lt-leb, and_parts, and_from}
 use Rattle.entries.specs.Cells.{part}
 use Rattle.format.specs.Book.{has_room, most_changes, most_body_bytes}
 use Rattle.format.specs.Bytes.{Bytes}
@@ -216,10 +216,6 @@ room k pool cs h =
     let l = length-map cs (row_in pool) in
     let few = ltb-true (length u) most_changes p.0 in
     (omega arith, leb-true (body_bytes u + k) most_body_bytes p.1)
-
--- what an insertion that succeeds leaves
-pub set_in : (x : Change) (b : Bool) (cs cs' : List Change) (p q : ℕ) → cs' ≡ cond b (insert cs p x) cs → b ≡ true → p ≡ q → cs' ≡ insert cs q x
-set_in x b cs cs' p q h e f = h ∙ cond-true b (insert cs p x) cs e ∙ ap (λ i. insert cs i x) f
 
 -- whether there is room, by the counts of the update
 pub room_is : (k n m : ℕ) (u : Update) → n ≡ length u → m ≡ body_bytes u → m ≤ most_body_bytes → n < most_changes → leb k (most_body_bytes - m) ≡ has_room u k

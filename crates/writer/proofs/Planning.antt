@@ -9,7 +9,7 @@ use Rattle.format.specs.Revisions.{State, nth}
 use Rattle.format.specs.Updates.{Change, body, removed}
 use Rattle.format.specs.Writing.{entry_gen, cell, cell_bytes}
 use Rattle.writer.specs.declared.change.Content.{Content}
-use Rattle.writer.specs.declared.change.Content.TheVariants.{Body, Removed}
+use Rattle.writer.specs.declared.change.Content.TheVariants.{Body}
 use Rattle.writer.specs.declared.plan.Planned.TheVariants.{Wrote, Freed}
 use Rattle.writer.specs.Changes.{content_in}
 use Rattle.writer.specs.Planned.{planned_of}
@@ -54,9 +54,6 @@ change_fits n g (Some removed) hn hg = omega arith
 -- a body's change
 pub body_there : (pool : Bytes) (o : Option Content) (s e : ℕ) → o ≡ Some (Body s e) → option_map (content_in pool) o ≡ Some (body (part pool s e))
 body_there pool o s e h = ap (option_map (content_in pool)) h
-
-pub removed_there : (pool : Bytes) (o : Option Content) → o ≡ Some Removed → option_map (content_in pool) o ≡ Some removed
-removed_there pool o h = ap (option_map (content_in pool)) h
 
 -- the state of a number, by its cell
 pub state_by : (file : Bytes) (cs : List Cell) (n : ℕ) (o : Option Cell) → o ≡ nth n cs → option_map (state_in file) o ≡ nth n (states_in file cs)

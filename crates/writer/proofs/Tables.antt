@@ -1,10 +1,10 @@
 -- What a table says of a number.
-use Rattle.std.proofs.Common.{◌≡◌, ℕ, zero, suc, ◌+◌, ◌<◌, ◌≤◌, Bool, true, false, not, leb, List, [], ◌∷◌, map, is_some, slice_get, Some, None, Option, sym, refl, ap, ◌∙◌, arith}
+use Rattle.std.proofs.Common.{◌≡◌, ℕ, zero, suc, ◌+◌, ◌<◌, ◌≤◌, Bool, true, false, not, leb, List, [], ◌∷◌, map, slice_get, Option, sym, refl, ap, ◌∙◌, arith}
 use Rattle.std.specs.Option.{option_map}
 use Rattle.std.proofs.lemmas.Bool.{lt-leb, le-leb}
 use Rattle.entries.specs.declared.cell.Cell.{Cell}
 use Rattle.entries.specs.Cells.{state_in}
-use Rattle.format.specs.Book.{is_worn_out, may_put}
+use Rattle.format.specs.Book.{is_used, is_worn_out, may_put}
 use Rattle.format.specs.Bytes.{Bytes}
 use Rattle.format.specs.Revisions.{Revision, nth}
 use Rattle.format.specs.Updates.{Update, new_numbers}
@@ -28,6 +28,10 @@ nth_map f (suc n) (x ∷ xs) = nth_map f n xs
 pub state_of : (file : Bytes) (cells : List Cell) (v : Revision) (n : ℕ) (o : Option Cell) → TableOf file cells v → o ≡ nth n cells → nth n v.states ≡ option_map (state_in file) o
 state_of file cells v n o t e = ap (nth n) t.states ∙ nth_map (state_in file) n cells ∙ ap (option_map (state_in file)) (sym e)
 
+-- whether a number is in use, by its cell
+pub used_by : (file : Bytes) (cells : List Cell) (v : Revision) (n : ℕ) (o : Option Cell) (b : Bool) → TableOf file cells v → o ≡ nth n cells → b ≡ is_used (option_map (state_in file) o) → is_used (nth n v.states) ≡ b
+used_by file cells v n o b t e f = ap is_used (state_of file cells v n o t e) ∙ sym f
+
 -- a number that is not 0 and at most the next new one may be put unless it is free for good
 pub may_worn : (v : Revision) (u : Update) (n : ℕ) (b : Bool) → 1 ≤ n → n ≤ v.size + new_numbers v.size u → b ≡ is_worn_out (nth n v.states) → not b ≡ may_put v u n
 unfolding may_put new_size
@@ -48,7 +52,3 @@ may_past v u n h l =
     let p : leb 1 n ≡ true = le-leb 1 n h in
     let q : leb n (v.size + new_numbers v.size u) ≡ false = lt-leb n (v.size + new_numbers v.size u) l in
     rw (p, q) refl
-
-pub some_mapped : {A B : Type 0} (f : A → B) (o : Option A) → is_some (option_map f o) ≡ is_some o
-some_mapped f None = refl
-some_mapped f (Some x) = refl

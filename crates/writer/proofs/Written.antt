@@ -8,10 +8,9 @@ use Rattle.format.specs.Updates.{Update}
 use Rattle.format.specs.Writing as format
 use Rattle.format.specs.Writing.{cell, cell_bytes, cells, object_bytes}
 use Rattle.writer.specs.declared.draft.Draft.{Draft}
-use Rattle.writer.specs.declared.plan.Plan.{Plan}
 use Rattle.writer.specs.Drafts.{Adds, written, count, limit_of}
 use Rattle.writer.specs.Planned.{planned_of}
-use Rattle.writer.specs.Plans.{Writes, WritesAll, all_made, made_of, rows_of}
+use Rattle.writer.specs.Plans.{Plan, Writes, WritesAll, all_made, made_of, rows_of}
 
 -- the cells from a number on: the number's own, and those behind it
 cells_step : (size n p p' : ℕ) (old : List State) (u : Update) → n < size → p' ≡ p + length (cell_bytes n (cell p (nth n old) (find n u))) →

@@ -15,7 +15,7 @@ count d = vec_len d.bytes
 abbrev pub limit_of : Draft → ℕ
 limit_of d = d.limit
 
--- there is room for n bytes more
+-- There is room for n bytes more. Each append asks it for the bytes that it writes: no fact of the draft alone says it, since it speaks of what comes next as much.
 abbrev pub Room : Draft → ℕ → Type 0
 Room d n = count d + n ≤ limit_of d
 

@@ -1,25 +1,30 @@
 -- What a plan holds, and how it grows with the objects written.
-use Rattle.std.specs.Prelude.{◌≡◌, ℕ, ◌+◌, ◌≤◌, List, [], ◌∷◌, ◌++◌, map, length, Some, None, vec_items, vec_len, Option}
+use Rattle.std.specs.Prelude.{◌≡◌, ℕ, ◌+◌, ◌≤◌, List, [], ◌∷◌, ◌++◌, map, length, Some, None, Option}
 use Rattle.std.specs.Coded.{×_prop, Unit-prop, le_prop}
 use Rattle.entries.specs.declared.cell.Cell.{Cell}
 use Rattle.entries.specs.declared.cell.Cell.TheVariants.{Used, Free}
+use Rattle.entries.specs.declared.reserved.Reserved.{Reserved}
 use Rattle.entries.specs.Cells.{states_in}
+use Rattle.entries.specs.Reserving.{items_of}
 use Rattle.format.specs.Bytes.{Bytes}
 use Rattle.format.specs.Revisions.{find, nth}
 use Rattle.format.specs.Updates.{Change, Update, body, removed}
 use Rattle.format.specs.Writing as format
 use Rattle.format.specs.Writing.{framed_bytes, cell, cell_bytes, cells, object_bytes}
 use Rattle.writer.specs.declared.draft.Draft.{Draft}
-use Rattle.writer.specs.declared.plan.Plan.{Plan}
 use Rattle.writer.specs.declared.plan.Planned.{Planned}
 use Rattle.writer.specs.Drafts.{Adds, count}
 use Rattle.writer.specs.Planned.{planned_of}
+use Rattle.writer.specs.Sizes.{most_numbers}
+
+abbrev pub Plan : Type 0
+Plan = Reserved Planned most_numbers
 
 abbrev pub rows_of : Plan → List Planned
-rows_of p = vec_items p.rows
+rows_of p = items_of p
 
 abbrev pub plan_count : Plan → ℕ
-plan_count p = vec_len p.rows
+plan_count p = length (rows_of p)
 
 -- the generations of a table's cells are at most 65535
 abbrev pub generation_in : Cell → ℕ

@@ -59,6 +59,7 @@ pub fn decide_remove(cells: &[Cell], root: u32, held: &Held, n: usize) -> Result
     if !is_used(cell_at(cells, n)) {
         return Err(Fault::refused(Reason::NotInUse, n));
     }
+    // No `From` leads from `u32` to `usize`.
     if n == root as usize {
         return Err(Fault::refused(Reason::RootNumber, n));
     }

@@ -6,7 +6,7 @@ mod digits;
 mod object;
 mod section;
 
-// At most `limit` bytes: the memory for them is there.
+// At most `limit` bytes: the memory for them is there. The limit is told when a draft is made, and so it is no `Reserved`, whose size is a constant.
 #[derive(Drop)]
 pub struct Draft {
     bytes: Vec<u8>,

@@ -13,7 +13,8 @@ pub const MOST_CHANGES: usize = 32;
 
 pub const MOST_BODY_BYTES: usize = 16384;
 
-// The changes by ascending numbers, and the bytes of their bodies.
+// The changes by ascending numbers, and the bytes of their bodies. A `Vec` for each body, or a map from the numbers, would take memory with each
+// change, and none is taken after a book is made: so all bodies stand in one list, a change has the places of its own, and changes are searched by number.
 #[derive(Drop)]
 pub struct Held {
     changes: Vec<Change>,

@@ -25,18 +25,19 @@ fn first_free(plan: &[Planned]) -> Option<usize>
     plan.iter().position(|one| is_free(*one))
 }
 
-// The first free number from `from` on, or 0.
-fn next_free(plan: &[Planned], from: usize) -> usize
+// The first free number from `from` on, or 0, as an entry has it. `usize` has no `From`: `as` is proved to lose nothing.
+fn next_free(plan: &[Planned], from: usize) -> u64
     requires { from ≤ length plan.now }
     ensures { result ≡ next_free from (map cell_of (drop from plan.now)) }
 {
     match first_free(&plan[from..]) {
-        Some(place) => from + place,
+        Some(place) => (from + place) as u64,
         None => 0,
     }
 }
 
 // The entry of a number that stays free, if it is listed: 0 is, and each whose next free number changes.
+#[tactic(auto, using(crate::proofs::Listing::same_link, crate::proofs::Listing::new_link, crate::proofs::Listing::zero_link))]
 fn vacant_entry(n: usize, link: u64, generation: u32, next: u64) -> Option<Entry>
     ensures { option_map slot_of result ≡ entry_for n link (cell_of (Planned.Vacant generation next)) }
 {
@@ -56,15 +57,12 @@ pub(crate) fn entry_of(plan: &[Planned], n: usize) -> Option<Entry>
 {
     match plan[n] {
         Planned::Kept => None,
-        Planned::Vacant { generation, next } => vacant_entry(
-            n,
-            next_free(plan, n + 1) as u64,
-            generation,
-            next,
-        ),
+        Planned::Vacant { generation, next } => {
+            vacant_entry(n, next_free(plan, n + 1), generation, next)
+        }
         Planned::Wrote { generation, offset } => Some(Entry::Used { offset, generation }),
         Planned::Freed { generation } => Some(Entry::Free {
-            next: next_free(plan, n + 1) as u64,
+            next: next_free(plan, n + 1),
             generation,
         }),
     }

@@ -1,8 +1,5 @@
 // What an update makes of each number, in memory that was taken once.
-ghost use Rattle.std.specs.Prelude.{◌≤◌, vec_len, vec_capacity};
-ghost use Rattle.writer.specs.Sizes.{most_numbers};
-
-mod rows;
+use entries::reserved::Reserved;
 
 // As many numbers as a table and an update have together.
 pub const MOST_NUMBERS: usize = 1032;
@@ -21,9 +18,4 @@ pub enum Planned {
 }
 
 // What becomes of the numbers from 0 on.
-#[derive(Drop)]
-pub struct Plan {
-    rows: Vec<Planned>,
-    ghost within: { vec_len rows ≤ most_numbers },
-    ghost places: { most_numbers ≤ vec_capacity rows },
-}
+pub type Plan = Reserved<Planned, MOST_NUMBERS>;

@@ -24,7 +24,8 @@ fn write_entries(draft: &mut Draft, plan: &[Planned], first: usize, end: usize)
     }
 }
 
-// An unbroken run from a number on: the number behind it.
+// An unbroken run from a number on: the number behind it. `usize` has no `From`: `as` is proved to lose nothing.
+#[tactic(auto, using(crate::proofs::Lengths::line_at_most))]
 fn write_run(draft: &mut Draft, plan: &[Planned], first: usize) -> usize
     requires size { length plan.now ≤ most_numbers }
     requires within { first ≤ length plan.now }

@@ -16,6 +16,7 @@ pub(crate) fn cell_at(cells: &[Cell], n: usize) -> Option<Cell>
 }
 
 // Whether a number is in use. Arm by arm, since the proof of a default arm does not learn which cells in `Some` are left for it.
+#[tactic(auto, unfolding(format::specs::Book::is_used))]
 pub(crate) fn is_used(cell: Option<Cell>) -> bool
     ensures { (file : Bytes) → result ≡ is_used (option_map (state_in file) cell) }
 {
@@ -27,6 +28,7 @@ pub(crate) fn is_used(cell: Option<Cell>) -> bool
 }
 
 // Whether a number is free for good, arm by arm for the same reason.
+#[tactic(auto, using(std::proofs::lemmas::Bool::Decides::nat_tests), unfolding(format::specs::Book::is_worn_out))]
 pub(crate) fn is_worn_out(cell: Option<Cell>) -> bool
     ensures { (file : Bytes) → result ≡ is_worn_out (option_map (state_in file) cell) }
 {

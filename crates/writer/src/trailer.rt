@@ -24,12 +24,11 @@ fn copy_entry(draft: &mut Draft, src: &[u8], one: Entry)
     requires room { Room draft.old (2 * (one.value.end - one.key)) }
     ensures { Adds draft.old (copy_of src.now one) draft.new }
 {
-    let key = one.key;
-    let behind = one.behind;
-    let start = one.value.start;
-    let end = one.value.end;
-    if !is_rewritten(&src[key + 1..behind]) {
-        draft.pair(&src[key..behind], &src[start..end]);
+    if !is_rewritten(&src[one.key + 1..one.behind]) {
+        draft.pair(
+            &src[one.key..one.behind],
+            &src[one.value.start..one.value.end],
+        );
     }
 }
 

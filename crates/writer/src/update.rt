@@ -6,8 +6,9 @@ ghost use Rattle.writer.specs.Sizes.{most_bytes};
 use crate::draft::Draft;
 use crate::plan::Plan;
 
-mod bytes;
+mod bodies;
 mod methods;
+mod section;
 
 // As many bytes as any update can have: objects, entries, a trailer and the end.
 pub const MOST_BYTES: usize = 131072;

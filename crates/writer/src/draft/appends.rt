@@ -1,4 +1,5 @@
-// Making a draft, asking it, and appending bytes to it.
+// Making a draft, asking it, and appending bytes to it. Each append asks `Room` for the bytes that it writes: no ghost field of the draft says it, since it
+// speaks of what is written next as much as of the draft.
 ghost use Rattle.std.specs.Prelude.{◌≡◌, ◌-◌, [], ◌∷◌, length, IfOk};
 ghost use Rattle.writer.specs.Drafts.{Adds, Room, count, limit_of, written};
 
@@ -53,7 +54,7 @@ impl Draft {
         self.bytes.push_reserved(one);
     }
 
-    // Some bytes more.
+    // Some bytes more. There is room, so that this cannot fail.
     pub fn text(&mut self, more: &[u8])
         requires { Room self.old (length more.now) }
         ensures { Adds self.old more.now self.new }

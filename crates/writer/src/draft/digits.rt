@@ -5,7 +5,7 @@ ghost use Rattle.writer.specs.Drafts.{Adds, Room};
 
 use super::Draft;
 
-// The last digit of a number, as a byte.
+// The last digit of a number, as a byte. Here and in `decimal`, `as` is proved to lose nothing, and `try_from` would answer an error that never comes.
 fn last_digit(n: u64) -> u8
     ensures { result ≡ 48 + n % 10 }
 {
@@ -28,6 +28,7 @@ impl Draft {
     }
 
     // A number below 10,000,000,000 in decimal, between bytes.
+    #[tactic(auto, using(crate::proofs::Joined::adds_then))]
     pub fn number(&mut self, before: &[u8], n: u64, after: &[u8])
         requires small { n < 10 ^ 10 }
         requires room { Room self.old (length before.now + length (decimal n) + length after.now) }
@@ -39,6 +40,7 @@ impl Draft {
     }
 
     // The last `k` digits of a number, with zeros in front.
+    #[tactic(auto, using(sections::proofs::Digits::padded_length))]
     pub fn padded(&mut self, k: usize, n: u64)
         requires { Room self.old k }
         ensures { Adds self.old (padded k n []) self.new }

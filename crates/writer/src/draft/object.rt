@@ -7,12 +7,13 @@ use super::Draft;
 
 impl Draft {
     // An object: its number, its generation, and its body on lines of its own.
+    #[tactic(auto, using(locality::proofs::Written::framed_length, crate::proofs::Lengths::spaced_length, crate::proofs::Lengths::opened_length))]
     pub fn object(&mut self, number: u32, generation: u32, body: &[u8])
         requires { Room self.old (length (framed_bytes number generation body.now)) }
         ensures { Adds self.old (framed_bytes number generation body.now) self.new }
     {
-        self.number(b"", number as u64, b" ");
-        self.number(b"", generation as u64, b" obj\n");
+        self.number(b"", u64::from(number), b" ");
+        self.number(b"", u64::from(generation), b" obj\n");
         self.text(body);
         self.object_end();
     }

@@ -17,6 +17,7 @@ impl Draft {
     }
 
     // The 20 bytes of an entry.
+    #[tactic(auto, using(crate::proofs::Joined::adds_as, crate::proofs::Pieces::used_marked, crate::proofs::Pieces::free_marked))]
     pub fn entry(&mut self, one: Entry)
         requires { Room self.old 20 }
         ensures { Adds self.old (slot_bytes (slot_of one)) self.new }
@@ -28,13 +29,14 @@ impl Draft {
     }
 
     // An entry by its ten digits, its generation and its mark.
+    #[tactic(auto, using(sections::proofs::Digits::padded_length))]
     fn marked_entry(&mut self, field: u64, generation: u32, mark: u8)
         requires { Room self.old 20 }
         ensures { Adds self.old (padded 10 field (32 ∷ padded 5 generation (32 ∷ mark ∷ 32 ∷ 10 ∷ []))) self.new }
     {
         self.ten_digits(field);
         self.byte(b' ');
-        self.padded(5, generation as u64);
+        self.padded(5, u64::from(generation));
         self.byte(b' ');
         self.byte(mark);
         self.entry_end();
@@ -67,16 +69,18 @@ impl Draft {
     }
 
     // The line above a run: its first number, and how many there are.
+    #[tactic(auto, using(crate::proofs::Lengths::line_length, crate::proofs::Lengths::spaced_length))]
     pub fn run_line(&mut self, first: u32, count: u64)
         requires small { count < 10 ^ 10 }
         requires room { Room self.old (length (line_bytes first count)) }
         ensures { Adds self.old (line_bytes first count) self.new }
     {
-        self.number(b"", first as u64, b" ");
+        self.number(b"", u64::from(first), b" ");
         self.number(b"", count, b"\n");
     }
 
-    // A run: its line and its entries.
+    // A run: its line and its entries. `usize` has no `From`: `as` is proved to lose nothing.
+    #[tactic(auto, using(crate::proofs::Lengths::run_of_length))]
     pub fn run(&mut self, first: u32, all: &[Entry])
         requires small { length all.now < 10 ^ 10 }
         requires room { Room self.old (length (run_on (first, slots_of all.now) [])) }
@@ -95,6 +99,7 @@ impl Draft {
     }
 
     // A trailer's entry with the key and the value as they are given.
+    #[tactic(auto, using(crate::proofs::Joined::adds_then), unfolding(crate::specs::Pieces::pair_bytes))]
     pub fn pair(&mut self, key: &[u8], value: &[u8])
         requires { Room self.old (length key.now + length value.now + 2) }
         ensures { Adds self.old (pair_bytes key.now value.now) self.new }
@@ -106,14 +111,16 @@ impl Draft {
     }
 
     // A trailer's Size.
+    #[tactic(auto, using(crate::proofs::Lengths::size_length))]
     pub fn size(&mut self, size: u32)
         requires { Room self.old (length (size_bytes size)) }
         ensures { Adds self.old (size_bytes size) self.new }
     {
-        self.number(b"/Size ", size as u64, b"\n");
+        self.number(b"/Size ", u64::from(size), b"\n");
     }
 
     // A trailer's Prev: where the section before starts.
+    #[tactic(auto, using(crate::proofs::Lengths::prev_length), unfolding(format::specs::Writing::prev_bytes))]
     pub fn prev(&mut self, offset: u64)
         requires small { offset < 10 ^ 10 }
         requires room { Room self.old (length (prev_bytes (Some offset))) }
@@ -123,6 +130,7 @@ impl Draft {
     }
 
     // The end of a section that starts at an offset.
+    #[tactic(auto, using(crate::proofs::Lengths::close_length), unfolding(crate::specs::Pieces::close_bytes))]
     pub fn close(&mut self, offset: u64)
         requires small { offset < 10 ^ 10 }
         requires room { Room self.old (length (close_bytes offset)) }

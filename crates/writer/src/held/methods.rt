@@ -9,7 +9,7 @@ ghost use Rattle.writer.specs.Changes.{content_in};
 ghost use Rattle.writer.specs.Helds.{Kept, pool_of, update_of};
 
 use super::{Held, MOST_BODY_BYTES, MOST_CHANGES};
-use crate::change::{Change, Content, change_of, count_new, place_for};
+use crate::change::{Change, Content, change_of, count_new, set};
 use std::alloc::{AllocError, Global};
 
 impl Held {
@@ -82,28 +82,28 @@ impl Held {
         &self.bodies[start..end]
     }
 
-    // Puts a body, where the number has no change yet and there is room.
+    // Puts a body, where the number has no change yet and there is room, so that neither list asks for memory.
+    #[tactic(auto, using(crate::proofs::Changes::room))]
     pub fn put(&mut self, n: usize, bytes: &[u8])
         requires free { find n (update_of self.old) ≡ None }
         requires room { has_room (update_of self.old) (length bytes.now) ≡ true }
         ensures { update_of self.new ≡ with_change n (body bytes.now) (update_of self.old) }
     {
-        let place = place_for(&self.changes, n);
         let start = self.body_bytes();
         let end = start + bytes.len();
         let content = Content::Body { start, end };
         let _ = self.bodies.extend_from_slice(bytes);
-        let _ = self.changes.insert(place, Change { number: n, content });
+        set(&mut self.changes, Change { number: n, content });
     }
 
     // Removes an object, where the number has no change yet and there is room.
+    #[tactic(auto, using(crate::proofs::Changes::room))]
     pub fn remove(&mut self, n: usize)
         requires free { find n (update_of self.old) ≡ None }
         requires room { has_room (update_of self.old) 0 ≡ true }
         ensures { update_of self.new ≡ with_change n removed (update_of self.old) }
     {
-        let place = place_for(&self.changes, n);
         let content = Content::Removed;
-        let _ = self.changes.insert(place, Change { number: n, content });
+        set(&mut self.changes, Change { number: n, content });
     }
 }

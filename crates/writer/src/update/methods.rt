@@ -8,7 +8,6 @@ ghost use Rattle.writer.specs.Tables.{TableOf};
 ghost use Rattle.writer.specs.Trailers.{ReadAs};
 ghost use Rattle.writer.specs.Writers.{bytes_of};
 
-use super::bytes::write_update;
 use super::{MOST_BYTES, Writer};
 use crate::draft::Draft;
 use crate::held::Held;
@@ -30,7 +29,12 @@ impl Writer {
     pub fn write(&mut self, held: &Held, newest: &Newest) -> usize
         ensures { (file : Bytes) (v : Revision) → TableOf file newest.now.cells.now v → v.offset ≡ newest.now.offset → ReadAs newest.now.window.now newest.now.inside v.trailer → (bytes_of self.new ≡ update_bytes newest.now.len v (update_of held.now)) × (result ≡ length (update_objects newest.now.len v (update_of held.now))) }
     {
-        write_update(&mut self.draft, &mut self.plan, held, newest)
+        self.draft.clear();
+        let old = newest.cells.len();
+        self.write_objects(newest, held, old + held.new_numbers(old));
+        let objects = self.len();
+        self.write_section(newest, newest.len + objects);
+        objects
     }
 
     // How many bytes are written.

@@ -1,8 +1,4 @@
-use Rattle.std.proofs.Common.{[], arith}
 use Rattle.writer.proofs.numbers.planned.Goals as goal
-
-pub changed-requires : goal.changed-requires
-changed-requires c = let g = c.generation_of.ensures [] in omega arith
 
 pub returns-in-Some : goal.returns-in-Some
 returns-in-Some c = λ file pool. rw c.in-Some.is (c.changed.ensures file pool c.args.before (c.generation_of.ensures file))

@@ -3,18 +3,15 @@ use Rattle.writer.specs.Listing.{front}
 use Rattle.writer.proofs.RunsWritten.{run_written, none_written}
 use Rattle.writer.proofs.runs.write_from.Goals as goal
 
-pub returns-in-Some : goal.returns-in-Some
-returns-in-Some c =
+pub returns-in-Some-clause-runs : goal.returns-in-Some-clause-runs
+returns-in-Some-clause-runs c =
     let e = c.write_run.ensures in
     let l = ap (λ xs. length (front xs)) c.in-Some.ensures in
     let i = e.is in
     let w = e.within in
     let p = c.requires.within in
     let q = c.requires.size in
-    record {
-      runs = run_written c.args.plan.now c.args.n c.write_run.result _ _ c.args.draft.now c.write_run.new.draft c.in-Some.ensures (omega arith) q i e.adds;
-      within = (omega arith, w);
-    }
+    run_written c.args.plan.now c.args.n c.write_run.result _ _ c.args.draft.now c.write_run.new.draft c.in-Some.ensures (omega arith) q i e.adds
 
-pub returns-in-None : goal.returns-in-None
-returns-in-None c = record { runs = none_written c.args.plan.now c.args.n c.args.draft.now c.in-None.ensures; within = (omega arith, omega arith) }
+pub returns-in-None-clause-runs : goal.returns-in-None-clause-runs
+returns-in-None-clause-runs c = none_written c.args.plan.now c.args.n c.args.draft.now c.in-None.ensures

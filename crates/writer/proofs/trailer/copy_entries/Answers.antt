@@ -43,10 +43,7 @@ entries-preserved c =
       c.copy_entry.ensures.limit ∙ i.3,
     )
 
-pub returns : goal.returns
-returns c =
+pub returns-clause-adds : goal.returns-clause-adds
+returns-clause-adds c = λ es h.
     let i = c.entries.invariant in
-    record {
-      adds = λ es h. copying_done c.args.src.now c.entries.at es c.args.draft.now c.entries.draft (i.0 es h) (sym c.in_default.ensures) i.3;
-      grown = i.2;
-    }
+    copying_done c.args.src.now c.entries.at es c.args.draft.now c.entries.draft (i.0 es h) (sym c.in_default.ensures) i.3

@@ -1,7 +1,5 @@
-use Rattle.std.proofs.Common.{◌≡◌, [], length, take, sym, ap, arith}
-use Rattle.std.proofs.lemmas.List.{length-take-le, take_all}
-use Rattle.format.specs.Writing.{slots_on}
-use Rattle.writer.specs.Pieces.{slots_of}
+use Rattle.std.proofs.Common.{◌≡◌, length, take, sym, arith}
+use Rattle.std.proofs.lemmas.List.{length-take-le}
 use Rattle.writer.proofs.Joined.{adds_none, adds_then, adds_as}
 use Rattle.writer.proofs.Lengths.{entries_length}
 use Rattle.writer.proofs.Pieces.{slots_none, slots_more}
@@ -21,6 +19,3 @@ entry-requires c =
 pub loop-one-preserved : goal.loop-one-preserved
 loop-one-preserved c =
     adds_as (adds_then c.loop-one.invariant c.entry.ensures) (sym (slots_more c.args.all.now c.loop-one.one-index _ c.loop-one-test.true))
-
-pub returns : goal.returns
-returns c = adds_as c.loop-one.invariant (ap (λ es. slots_on (slots_of es) []) (take_all c.loop-one.one-index c.args.all.now c.loop-one-test.false))

@@ -1,0 +1,17 @@
+use super::Reserved;
+use std::test::Fail;
+
+#[test]
+fn full_and_let_go(rt: HostRuntime) -> Result<(), Fail> {
+    let mut list: Reserved<u8, 3> = Reserved::new(rt.alloc())?;
+    assert!(rt; list.len() == 0 && list.as_slice() == b"".as_slice());
+    list.push(b'a');
+    list.push(b'b');
+    list.push(b'c');
+    assert!(rt; list.len() == 3 && list.as_slice() == b"abc".as_slice());
+    list.clear();
+    assert!(rt; list.len() == 0);
+    list.push(b'd');
+    assert!(rt; list.as_slice() == b"d".as_slice());
+    Ok(())
+}
