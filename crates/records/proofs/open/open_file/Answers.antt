@@ -1,11 +1,11 @@
-use Rattle.std.proofs.Common.{◌≡◌, [], Err, vec_items, sym, ap, ◌∙◌, arith}
-use Rattle.std.proofs.lemmas.Result.{err_from_is_err_and}
+use Rattle.std.proofs.Common.{[], Err, vec_items, sym, ap, ◌∙◌, arith}
 use Rattle.faults.specs.declared.reason.Reason.TheVariants.{NoTail}
 use Rattle.format.specs.Chain.{walk}
 use Rattle.format.specs.Failures.{chain_fault}
 use Rattle.format.specs.Revisions.{most_revisions}
 use Rattle.records.specs.declared.chain.Ending.TheVariants.{At}
 use Rattle.records.specs.Chained.{may_end}
+use Rattle.records.proofs.Answering.{handed}
 use Rattle.records.proofs.Openings.{open_long, open_headless, open_tailless, open_unchained, open_unread, open_read}
 use Rattle.records.proofs.Tabling.{tabled_none}
 use Rattle.records.proofs.open.open_file.Goals as goal
@@ -31,8 +31,7 @@ returns-in_default g c = record {
 
 pub returns-in_err-walk : goal.returns-in_err-walk
 returns-in_err-walk g c =
-    let p = err_from_is_err_and c.from_residual.result c.from_residual.ensures.1 in
-    let z : c.from_residual.result ≡ Err c.in_err-walk.field-0.0 = cc in
+    let z = handed c.from_residual.result c.in_err-walk.field-0.0 c.from_residual.ensures.1 in
     rw z (record {
       tabled = tabled_none (vec_items c.clear.new.self.revisions) (vec_items c.clear.new.self.cells) c.clear.ensures.revisions c.clear.ensures.cells;
       is = open_unchained (g.S.Store.meaning c.args.store.now).bytes (omega arith) (sym c.if-not-has_header.ensures) c.in-Some.newest c.in-Some.ensures c.in_err-walk.field-0.0 (ap (λ n. walk most_revisions (g.S.Store.meaning c.args.store.now).bytes c.in-Some.newest (may_end (At n)) []) (sym c.len-length.ensures) ∙ c.in_err-walk.ensures.is);
@@ -40,8 +39,7 @@ returns-in_err-walk g c =
 
 pub returns-in_err-read_revisions : goal.returns-in_err-read_revisions
 returns-in_err-read_revisions g c =
-    let p = err_from_is_err_and c.from_residual-in_err-read_revisions.result c.from_residual-in_err-read_revisions.ensures.1 in
-    let z : c.from_residual-in_err-read_revisions.result ≡ Err c.in_err-read_revisions.field-0.0 = cc in
+    let z = handed c.from_residual-in_err-read_revisions.result c.in_err-read_revisions.field-0.0 c.from_residual-in_err-read_revisions.ensures.1 in
     let w = c.in_ok-walk.ensures.is in
     rw z (record {
       tabled = c.in_err-read_revisions.ensures.tabled;

@@ -1,6 +1,6 @@
-use Rattle.std.proofs.Common.{◌≡◌, [], ◌∷◌, ◌++◌, length, Err, vec_items, vec_len, sym, ap, ◌∙◌, arith}
+use Rattle.std.proofs.Common.{◌≡◌, [], ◌∷◌, ◌++◌, length, vec_items, vec_len, sym, ap, ◌∙◌, arith}
 use Rattle.std.proofs.lemmas.List.{nil_from_length}
-use Rattle.std.proofs.lemmas.Result.{err_from_is_err_and}
+use Rattle.records.proofs.Answering.{handed}
 use Rattle.records.proofs.Openings.{reading_start, reading_stop, reading_on, reading_end, later}
 use Rattle.records.proofs.Tabling.{tabled_none}
 use Rattle.records.proofs.open.read_revisions.Goals as goal
@@ -30,8 +30,7 @@ loop-offset-preserved g c =
 pub returns-in_err-read_revision : goal.returns-in_err-read_revision
 returns-in_err-read_revision g c =
     let file = (g.S.Store.meaning c.args.store.now).bytes in
-    let q = err_from_is_err_and c.from_residual.result c.from_residual.ensures.1 in
-    let z : c.from_residual.result ≡ Err c.in_err-read_revision.field-0.0 = cc in
+    let z = handed c.from_residual.result c.in_err-read_revision.field-0.0 c.from_residual.ensures.1 in
     let p : vec_items c.loop-offset.scratch.offsets ≡ vec_items c.pop.new.self ++ c.in-Some.offset ∷ [] = c.in-Some.ensures.items in
     rw z (record {
       is =

@@ -1,13 +1,12 @@
 use Rattle.std.proofs.Common.{◌≡◌, ◌+◌, ◌∷◌, ◌++◌, [], Some, None, Err, vec_items, vec_len, sym, ap, ◌∙◌, arith}
-use Rattle.std.proofs.lemmas.Result.{err_from_is_err_and}
 use Rattle.records.specs.declared.chain.Ending.TheVariants.{At, By}
+use Rattle.records.proofs.Answering.{handed}
 use Rattle.records.proofs.Chaining.{read_as, walk_stop, walk_last, walk_on, walk_out, walking_as}
 use Rattle.records.proofs.scratch.Scratch.walk.Goals as goal
 
 pub returns-in_err-before : goal.returns-in_err-before
 returns-in_err-before g c =
-    let p = err_from_is_err_and c.from_residual.result c.from_residual.ensures.1 in
-    let z : c.from_residual.result ≡ Err c.in_err-before.field-0.0 = cc in
+    let z = handed c.from_residual.result c.in_err-before.field-0.0 c.from_residual.ensures.1 in
     let k = ap vec_len c.in_err-before.ensures.kept in
     record {
       is = rw z (walk_stop (g.S.Store.meaning c.args.store.now).bytes c.args.newest (vec_len c.loop.self.offsets) c.loop.offset (At c.args.length) c.loop.ending (vec_items c.loop.self.offsets) (omega arith) c.loop.invariant.1 c.in_err-before.field-0.0 c.in_err-before.ensures.is);
