@@ -1,13 +1,7 @@
 use Rattle.std.proofs.Common.{refl}
 use Rattle.records.specs.Trailers.{seen_by}
-use Rattle.records.proofs.Answering.{handed}
 use Rattle.records.proofs.Sectioned.{trailer_seen}
 use Rattle.records.proofs.trailer.read_trailer.Goals as goal
-
-pub returns-in_err-section-clause-is : goal.returns-in_err-section-clause-is
-returns-in_err-section-clause-is g c =
-    let z = handed c.from_residual.result c.in_err-section.field-0.0 c.from_residual.ensures.1 in
-    rw z c.in_err-section.ensures.is
 
 pub returns-clause-is : goal.returns-clause-is
 returns-clause-is g c =

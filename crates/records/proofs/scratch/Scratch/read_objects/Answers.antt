@@ -1,4 +1,4 @@
-use Rattle.std.proofs.Common.{◌≡◌, length, Err, vec_items, ap, ◌∙◌, refl, subst, arith}
+use Rattle.std.proofs.Common.{◌≡◌, Err, vec_items, ap, ◌∙◌, refl, subst, arith}
 use Rattle.std.proofs.lemmas.List.{take_all}
 use Rattle.format.specs.Revisions.{states_of}
 use Rattle.entries.specs.Rows.{rows_of}
@@ -20,22 +20,12 @@ loop-row-init g c =
       ends = λ size e. rw c.clear.ensures.items tt;
     }
 
-pub invariant_of-self-in-Break-1 : goal.invariant_of-self-in-Break-1
-invariant_of-self-in-Break-1 g c = record { listed_room = c.loop-row.invariant.room; offsets_room = c.args.self.now.offsets_room }
-
-pub invariant_of-self-in-loop-row : goal.invariant_of-self-in-loop-row
-invariant_of-self-in-loop-row g c = record { listed_room = c.loop-row.invariant.room; offsets_room = c.args.self.now.offsets_room }
-
 pub returns-in_err-cell-clause-is : goal.returns-in_err-cell-clause-is
 returns-in_err-cell-clause-is g c =
     let file = (g.S.Store.meaning c.args.store.now).bytes in
     let z = handed c.from_residual.result c.in_err-cell.field-0.0 c.from_residual.ensures.1 in
     let stop = read_stop file c.args.offset c.as_slice-row-items.result.now c.loop-row.row-index no_row c.loop-row-test.true (vec_items c.loop-row.self.1.1.1.0) c.in_err-cell.field-0.0 c.in_err-cell.ensures.is c.loop-row.invariant.so in
     rw z (subst (λ rs. states_of file c.args.offset (rows_of rs) ≡ Err c.in_err-cell.field-0.0) c.as_slice-row-items.ensures stop)
-
-pub push_reserved-requires : goal.push_reserved-requires
-push_reserved-requires g c =
-    omega (arith, ap length c.as_slice-row-items.ensures, c.args.self.now.rows.few, c.args.self.now.rows.items.ok.0, c.loop-row.invariant.len, c.loop-row.invariant.room, c.loop-row-test.true)
 
 pub loop-row-preserved : goal.loop-row-preserved
 loop-row-preserved g c =
