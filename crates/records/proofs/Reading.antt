@@ -1,5 +1,5 @@
 -- The objects of a section, row by row.
-use Rattle.std.proofs.Common.{◌≡◌, ℕ, zero, suc, ◌+◌, ◌-◌, ◌^◌, ◌<◌, ◌≤◌, min, true, ltb, leb, List, [], ◌∷◌, ◌++◌, length, get_or, take, drop, ℤ, IfOk, Ok, Err, Result, MatchResult, sym, refl, ap, ◌∙◌, append_assoc, arith, length-drop, length-take, ltb-true, eq-eqb}
+use Rattle.std.proofs.Common.{◌≡◌, ℕ, zero, suc, ◌+◌, ◌-◌, ◌^◌, ◌<◌, ◌≤◌, min, true, ltb, leb, List, [], ◌∷◌, ◌++◌, length, get_or, take, drop, ℤ, Ok, Err, Result, MatchResult, sym, refl, ap, ◌∙◌, append_assoc, arith, length-drop, length-take, ltb-true, eq-eqb}
 use Rattle.std.proofs.lemmas.List.{append-nil, at_drop_more, at_drop_all, drop-drop, map_push, take_more}
 use Rattle.std.specs.Result.{IsErrAnd}
 use Rattle.faults.specs.declared.fault.Fault.{Fault}
@@ -31,12 +31,6 @@ pub window_counts : (file src : Bytes) (at m : ℕ) → src ≡ take m (drop at 
 window_counts file src at m w h l =
     let q = ap length w ∙ length-take m (drop at file) in
     let d = length-drop at file in
-    omega arith
-
--- the same of a window that ends before another place
-pub part_counts : (file src : Bytes) (at end : ℕ) → src ≡ take (min (end - at) window_bytes) (drop at file) → at < 2 ^ 64 → end < 2 ^ 64 → at + length src < 2 ^ 64
-part_counts file src at end w h l =
-    let q = ap length w ∙ length-take (min (end - at) window_bytes) (drop at file) in
     omega arith
 
 -- the same answer, where a refusal names the object n
@@ -86,12 +80,6 @@ module _ (file : Bytes) (off n at g : ℕ) (src : Bytes) (w : src ≡ take (min 
       by_frame _ (sym e)
       ∙ rw (eq-eqb f.number n k.0) (rw (eq-eqb f.generation g k.1) (rw k.2 (ap (λ (b : Bytes). Ok (used g b)) (same_body f l))))
   frame_read f (Err x) e l k = by_frame _ (sym e) ∙ rw (k.0, k.1) refl
-
-  pub frame_ends : (f : Frame) (r : Result Cell Fault) → FrameLies at (length src) f → FramedCell off n g f r → at < off → IfOk r (EndsBy off)
-  frame_ends f (Ok c) l k h =
-      let q = ap length w ∙ length-take (min (off - at) window_bytes) (drop at file) in
-      rw k.2 (l.1, omega (arith, l.2, l.3))
-  frame_ends f (Err x) l k h = tt
 
 -- a free entry is what it says itself
 pub free_read : (file : Bytes) (off n next g : ℕ) → state_of file off n (free_slot next g) ≡ Ok (free g next)

@@ -174,6 +174,3 @@ tabled_more revs after cells whole k n t h a w =
       small = small_push revs (held_as k n (length cells)) t.small h;
       stacked = rw w (stacked_push 0 (length cells) revs (held_as k n (length cells)) t.stacked refl);
     })
-
-pub grown_length : (revs after : List Revision) (r : Revision) → after ≡ revs ++ r ∷ [] → length after ≡ length revs + 1
-grown_length revs after r e = ap length e ∙ length-append revs (r ∷ [])
