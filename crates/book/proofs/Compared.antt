@@ -1,12 +1,11 @@
 -- The objects of two revisions, compared by their cells.
-use Rattle.std.proofs.Common.{◌≡◌, ℕ, ◌+◌, ◌-◌, ◌<◌, ◌≤◌, true, false, ◌&&◌, leb, List, [], ◌∷◌, length, get_or, Some, None, Ok, Err, Option, refl, ap, ◌∙◌, ⊎_elim, arith, length-drop, length-take}
+use Rattle.std.proofs.Common.{◌≡◌, ℕ, ◌+◌, ◌-◌, ◌<◌, ◌≤◌, true, false, ◌&&◌, List, [], ◌∷◌, length, get_or, Some, None, Ok, Err, Option, refl, ap, ◌∙◌, ⊎_elim, arith, length-drop, length-take}
 use Rattle.std.proofs.lemmas.List.{get_or_default}
-use Rattle.std.proofs.lemmas.Bool.{cases_lt, eq-eqb, leb-true}
+use Rattle.std.proofs.lemmas.Bool.{cases_lt, eq-eqb}
 use Rattle.faults.specs.declared.fault.Fault.{Fault}
 use Rattle.faults.specs.declared.reason.Reason.TheVariants.{NoRevision}
 use Rattle.faults.specs.Faults.{refused}
 use Rattle.chains.proofs.Openings.{history_opened}
-use Rattle.chains.proofs.Steps.{never_answer}
 use Rattle.locality.proofs.Cases.{cases}
 use Rattle.locality.proofs.Objects.{same_eq}
 use Rattle.format.specs.Book.{Moment, revision_at, history}
@@ -14,7 +13,7 @@ use Rattle.format.specs.Bytes.{Bytes, same}
 use Rattle.format.specs.Chain.{Answer, also}
 use Rattle.format.specs.Questions.{ask_history, ask_revision}
 use Rattle.format.specs.Revisions as format
-use Rattle.format.specs.Revisions.{nth, Opened, opens, file_bytes}
+use Rattle.format.specs.Revisions.{nth}
 use Rattle.format.specs.Updates.{shown_of, objects_of}
 use Rattle.entries.specs.Cells.{part, state_in}
 use Rattle.entries.specs.declared.cell.Cell.{Cell}
@@ -37,11 +36,6 @@ same_refl (x ∷ xs) = ap (λ t. t && same xs xs) (eq-eqb x x refl) ∙ same_ref
 
 pub unlike_lengths : (xs ys : Bytes) → (length xs ≡ length ys → ⊥) → same xs ys ≡ false
 unlike_lengths xs ys h = cases (same xs ys) (λ t. absurd (h (ap length (same_eq xs ys t)))) (λ f. f)
-
--- a file that opens is short enough to be counted
-pub opened_short : (file : Bytes) (o : Opened) → opens file ≡ Ok o → length file ≤ file_bytes
-unfolding opens
-opened_short file o h = cases (leb (length file) file_bytes) (λ s. leb-true (length file) file_bytes s) (λ s. never_answer (rw s at h))
 
 abbrev found : ℕ → Option format.Revision → Answer format.Revision
 found n o = elim o [ None ↦ Err (refused NoRevision n) | Some r ↦ Ok r ]

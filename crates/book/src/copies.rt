@@ -1,8 +1,10 @@
 // Bytes of a store, copied into a buffer or into another store.
 ghost use Rattle.std.specs.Prelude.{◌≡◌, ◌-◌, ◌≤◌, ◌++◌, length, take, drop};
 ghost use Rattle.book.specs.Copies.{BodyInto, Grown};
+ghost use Rattle.book.specs.Differences.{Lies};
 ghost use Rattle.entries.specs.Cells.{part};
 
+use crate::rows::Body;
 use faults::fault::Fault;
 use faults::reason::Reason;
 use stores::store::Store;
@@ -10,33 +12,31 @@ use stores::store::Store;
 // How many bytes are copied at once.
 const STRIDE: usize = 4096;
 
-// Fills the start of the buffer with the bytes of the store from `start` up to `end`; the rest keeps its bytes.
-fn fill<S: Store>(store: &S, start: usize, end: usize, buffer: &mut [u8])
-    requires order { start ≤ end }
-    requires inside { end ≤ length (S.Store.meaning store.now).bytes }
-    requires room { end - start ≤ length buffer.old }
-    ensures { buffer.new ≡ take (end - start) (drop start (S.Store.meaning store.now).bytes) ++ drop (end - start) buffer.old }
+// Fills the start of the buffer with a body that lies in the store; the rest keeps its bytes.
+fn fill<S: Store>(store: &S, body: Body, buffer: &mut [u8])
+    requires lies { Lies (S.Store.meaning store.now).bytes body }
+    requires room { body.end - body.start ≤ length buffer.old }
+    ensures { buffer.new ≡ part (S.Store.meaning store.now).bytes body.start body.end ++ drop (body.end - body.start) buffer.old }
 {
-    let _count = store.read(start, &mut buffer[0..end - start]);
+    let _count = store.read(body.start, &mut buffer[0..body.end - body.start]);
 }
 
 // Fills the start of the buffer with the body of the number n, and answers its length; a short buffer keeps its bytes.
 pub fn body_into<S: Store>(
     store: &S,
-    start: usize,
-    end: usize,
+    body: Body,
     n: usize,
     buffer: &mut [u8],
 ) -> Result<usize, Fault>
-    requires order { start ≤ end }
-    requires inside { end ≤ length (S.Store.meaning store.now).bytes }
-    ensures { BodyInto (part (S.Store.meaning store.now).bytes start end) (end - start) n buffer.old result buffer.new }
+    requires { Lies (S.Store.meaning store.now).bytes body }
+    ensures { BodyInto (part (S.Store.meaning store.now).bytes body.start body.end) (body.end - body.start) n buffer.old result buffer.new }
 {
-    if end - start > buffer.len() {
+    let length = body.end - body.start;
+    if length > buffer.len() {
         return Err(Fault::refused(Reason::ShortBuffer, n));
     }
-    fill(store, start, end, buffer);
-    Ok(end - start)
+    fill(store, body, buffer);
+    Ok(length)
 }
 
 // Joins the first `end` bytes of a store behind those of another, which has the space for them.

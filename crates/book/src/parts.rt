@@ -1,28 +1,32 @@
-// Two parts of a store's bytes, compared.
-ghost use Rattle.std.specs.Prelude.{◌≡◌, ◌+◌, ◌^◌, ◌<◌, ◌≤◌, length, take, drop};
+// Two bodies that lie in a store, compared.
+ghost use Rattle.std.specs.Prelude.{◌≡◌, ◌-◌};
 ghost use Rattle.format.specs.Bytes.{same};
+ghost use Rattle.entries.specs.Cells.{part};
+ghost use Rattle.book.specs.Differences.{Lies};
 
+use crate::rows::Body;
 use lexer::name::same_bytes;
 use stores::store::Store;
 
 // How many bytes are compared at once.
 const STRIDE: usize = 2048;
 
-// Whether `count` bytes from one place on are those from another.
-pub fn same_parts<S: Store>(store: &S, a: usize, b: usize, count: usize) -> bool
-    requires counts { length (S.Store.meaning store.now).bytes < 2 ^ 64 }
-    requires first { a + count ≤ length (S.Store.meaning store.now).bytes }
-    requires second { b + count ≤ length (S.Store.meaning store.now).bytes }
-    ensures { result ≡ same (take count (drop a (S.Store.meaning store.now).bytes)) (take count (drop b (S.Store.meaning store.now).bytes)) }
+// Whether two bodies of one length have the same bytes.
+pub fn same_parts<S: Store>(store: &S, a: Body, b: Body) -> bool
+    requires first { Lies (S.Store.meaning store.now).bytes a }
+    requires second { Lies (S.Store.meaning store.now).bytes b }
+    requires even { a.end - a.start ≡ b.end - b.start }
+    ensures { result ≡ same (part (S.Store.meaning store.now).bytes a.start a.end) (part (S.Store.meaning store.now).bytes b.start b.end) }
 {
+    let count = a.end - a.start;
     let mut one = [0; STRIDE];
     let mut other = [0; STRIDE];
     let mut done = 0;
     // the last stretch may be shorter than the others, so no range of equal steps tells the places
     while done < count {
         let many = STRIDE.min(count - done);
-        let _one = store.read(a + done, &mut one);
-        let _other = store.read(b + done, &mut other);
+        let _one = store.read(a.start + done, &mut one);
+        let _other = store.read(b.start + done, &mut other);
         if !same_bytes(&one[0..many], &other[0..many]) {
             return false;
         }

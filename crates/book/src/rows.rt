@@ -1,8 +1,7 @@
 // The rows and the cells of the tables, for the questions.
-ghost use Rattle.std.specs.Prelude.{◌≡◌, ◌+◌, ◌≤◌, length, take, drop, not, count_by};
+ghost use Rattle.std.specs.Prelude.{◌≡◌, ◌+◌, ◌≤◌, length, not, count_by};
 ghost use Rattle.entries.specs.Tables.{cells_of};
 ghost use Rattle.keeping.specs.Staying.{RowAt};
-ghost use Rattle.keeping.specs.Answering.{used_among};
 ghost use Rattle.book.specs.Rows.{BodyFound, Found, is_free};
 
 use entries::cell::Cell;
@@ -76,16 +75,8 @@ fn is_used(cell: &Cell) -> bool
 }
 
 // How many cells are in use.
-fn used_in(cells: &[Cell]) -> usize
+pub fn used_in(cells: &[Cell]) -> usize
     ensures { result ≡ count_by (λ c. not (is_free c)) cells.now }
 {
     cells.iter().filter(|cell| is_used(cell)).count()
-}
-
-// How many of `size` cells from `first` on are in use.
-pub fn count_used(cells: &[Cell], first: usize, size: usize) -> usize
-    requires { first + size ≤ length cells.now }
-    ensures { result ≡ used_among (take size (drop first cells.now)) }
-{
-    used_in(&cells[first..first + size])
 }

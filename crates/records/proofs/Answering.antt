@@ -1,6 +1,13 @@
 -- One answer after another.
-use Rattle.std.proofs.Common.{◌≡◌, Ok, Err, refl, ap}
+use Rattle.std.proofs.Common.{◌≡◌, Ok, Err, Result, refl, ap}
+use Rattle.std.specs.Result.{IsErrAnd}
+use Rattle.faults.specs.declared.fault.Fault.{Fault}
 use Rattle.format.specs.Chain.{Answer, also}
+
+-- a refusal that is handed up
+pub handed : {T : Type 0} (r : Result T Fault) (f : Fault) → IsErrAnd r (λ g. g ≡ f) → r ≡ Err f
+handed (Ok x) f h = absurd h
+handed (Err g) f h = ap Err h
 
 -- an answer, and nothing more
 pub also_same : {A : Type 0} (a : Answer A) → a ≡ also a (λ x. Ok x)

@@ -1,10 +1,9 @@
 -- The cells of rows, and the table that is laid of them, number by number.
-use Rattle.std.proofs.Common.{◌≡◌, ℕ, zero, suc, ◌+◌, ◌-◌, ◌<◌, ◌≤◌, true, false, ◌&&◌, eqb, List, [], ◌∷◌, ◌++◌, length, get_or, drop, Bor, Option, Some, None, sym, refl, ap, ◌∙◌, ⊎_elim, append_assoc, add-one, arith}
+use Rattle.std.proofs.Common.{◌≡◌, ℕ, zero, suc, ◌+◌, ◌-◌, ◌<◌, ◌≤◌, Bool, true, false, ◌&&◌, eqb, List, [], ◌∷◌, ◌++◌, length, get_or, drop, Bor, MatchOption, Option, Some, None, sym, refl, ap, ◌∙◌, ⊎_elim, append_assoc, add-one, arith}
 use Rattle.std.proofs.lemmas.List.{append-nil, get_or_append_left, get_or-drop, length-drop}
 use Rattle.format.specs.Bytes.{Bytes}
 use Rattle.format.specs.Revisions.{State, find, nth, either, used_with, root_fits, covered}
 use Rattle.entries.specs.declared.cell.Cell.{Cell}
-use Rattle.entries.specs.declared.cell.Cell.TheVariants.{Used, Free}
 use Rattle.entries.specs.declared.entry.Row.{Row}
 use Rattle.entries.specs.Cells.{state_in, states_in}
 use Rattle.entries.specs.Rows.{rows_of, slot_of}
@@ -40,26 +39,19 @@ state_past file zero (x ∷ xs) h = absurd (omega arith)
 state_past file (suc n) (x ∷ xs) h = state_past file n xs (omega arith)
 
 -- a number in use with a generation
-pub used_past : (file : Bytes) (n g : ℕ) (cells : List Cell) → length cells ≤ n → false ≡ used_at n g (states_in file cells)
+used_past : (file : Bytes) (n g : ℕ) (cells : List Cell) → length cells ≤ n → false ≡ used_at n g (states_in file cells)
 unfolding used_at
 used_past file n g cells h = rw (state_past file n cells h, used_at) refl
 
-pub used_held : (file : Bytes) (n g : ℕ) (cells : List Cell) (d : Cell) (h s e : ℕ) → n < length cells → get_or cells n d ≡ Used h s e → eqb h g ≡ used_at n g (states_in file cells)
-unfolding used_at used_with
-used_held file n g cells d h s e l is = rw (state_at file n cells d l, used_at) (rw is refl)
+used_there : (file : Bytes) (n g : ℕ) (cells : List Cell) (d : Cell) → n < length cells → used_with g (state_in file (get_or cells n d)) ≡ used_at n g (states_in file cells)
+unfolding used_at
+used_there file n g cells d l = rw (state_at file n cells d l, used_at) refl
 
-pub free_held : (file : Bytes) (n g : ℕ) (cells : List Cell) (d : Cell) (h m : ℕ) → n < length cells → get_or cells n d ≡ Free h m → false ≡ used_at n g (states_in file cells)
-unfolding used_at used_with
-free_held file n g cells d h m l is = rw (state_at file n cells d l, used_at) (rw is refl)
-
--- what a place of a table that was read holds
-pub cell_got : (cells : List Cell) (n : ℕ) (o : Option (Bor Cell)) (x : Bor Cell) → IsItemAt cells n o → o ≡ Some x → (n < length cells) × (get_or cells n x.now ≡ x.now)
-cell_got cells n None x a e = some_none (sym e)
-cell_got cells n (Some y) x a e = let z : y ≡ x = cc in (ltb-true n (length cells) (sym a.0), rw (← z) (sym a.1))
-
-pub cell_past : (cells : List Cell) (n : ℕ) (o : Option (Bor Cell)) → IsItemAt cells n o → o ≡ None → length cells ≤ n
-cell_past cells n None a e = ltb-false n (length cells) (sym a.0)
-cell_past cells n (Some y) a e = some_none e
+-- a place of a table that was read, and what was asked of its cell
+pub used_told : (n g : ℕ) (cells : List Cell) (o : Option (Bor Cell)) (b : Bool) → IsItemAt cells n o → MatchOption o (b ≡ false) (λ x. (file : Bytes) → b ≡ used_with g (state_in file x.now)) → (file : Bytes) → b ≡ used_at n g (states_in file cells)
+used_told n g cells None b i m file = m ∙ used_past file n g cells (ltb-false n (length cells) (sym i.0))
+used_told n g cells (Some x) b i m file =
+    m file ∙ ap (λ (c : Cell). used_with g (state_in file c)) i.1 ∙ used_there file n g cells x.now (ltb-true n (length cells) (sym i.0))
 
 -- the row of a number that has a place
 row_at : (k n i : ℕ) (rows : List Row) → place_from k n (numbers_of rows) ≡ Some i → (d : Row) → (j : ℕ) × (i ≡ k + j) × (j < length rows) × (find n (rows_of rows) ≡ Some (slot_of (get_or rows j d).entry))

@@ -2,7 +2,6 @@ pub mod Answering
 pub mod Converted
 pub mod Listings
 pub mod Laying
-pub mod Filling
 pub mod Reading
 pub mod Tabling
 pub mod Stepping
@@ -12,4 +11,3 @@ pub mod Sectioned
 pub mod Revising
 pub mod Chaining
 pub mod Openings
-pub mod Sizes

@@ -1,6 +1,7 @@
 -- The objects of a section, row by row.
-use Rattle.std.proofs.Common.{◌≡◌, ℕ, zero, suc, ◌+◌, ◌-◌, ◌^◌, ◌<◌, ◌≤◌, min, true, false, ltb, leb, List, [], ◌∷◌, ◌++◌, length, get_or, take, drop, ℤ, IfOk, Ok, Err, Result, sym, refl, ap, ◌∙◌, append_assoc, arith, length-drop, length-take, ltb-true, eq-eqb}
-use Rattle.std.proofs.lemmas.List.{append-nil, at_drop_more, at_drop_all, drop-drop, map_push, take_more, take_all, length-take-le}
+use Rattle.std.proofs.Common.{◌≡◌, ℕ, zero, suc, ◌+◌, ◌-◌, ◌^◌, ◌<◌, ◌≤◌, min, true, ltb, leb, List, [], ◌∷◌, ◌++◌, length, get_or, take, drop, ℤ, Ok, Err, Result, MatchResult, sym, refl, ap, ◌∙◌, append_assoc, arith, length-drop, length-take, ltb-true, eq-eqb}
+use Rattle.std.proofs.lemmas.List.{append-nil, at_drop_more, at_drop_all, drop-drop, map_push, take_more}
+use Rattle.std.specs.Result.{IsErrAnd}
 use Rattle.faults.specs.declared.fault.Fault.{Fault}
 use Rattle.faults.specs.declared.reason.Reason.TheVariants.{ChainRule}
 use Rattle.faults.specs.Faults.{of_object}
@@ -31,6 +32,20 @@ window_counts file src at m w h l =
     let q = ap length w ∙ length-take m (drop at file) in
     let d = length-drop at file in
     omega arith
+
+-- the same answer, where a refusal names the object n
+abbrev pub Named : {T : Type 0} → ℕ → Result T Fault → Result T Fault → Type 0
+Named n r s = MatchResult r (λ x. s ≡ Ok x) (λ f. IsErrAnd s (λ h. h ≡ of_object n f))
+
+pub named_ok : {T : Type 0} (n : ℕ) (r s : Result T Fault) (x : T) → Named n r s → s ≡ Ok x → r ≡ Ok x
+named_ok n (Ok y) s x m e = cc
+named_ok n (Err f) (Ok y) x m e = absurd m
+named_ok n (Err f) (Err h) x m e = absurd (let z : ◌≡◌ {A = ℕ} 0 1 = cc in omega arith)
+
+pub named_err : {T : Type 0} (n : ℕ) (r s : Result T Fault) (h : Fault) → Named n r s → s ≡ Err h → (f : Fault) × (r ≡ Err f) × (h ≡ of_object n f)
+named_err n (Ok y) s h m e = absurd (let z : ◌≡◌ {A = ℕ} 0 1 = cc in omega arith)
+named_err n (Err f) (Ok y) h m e = absurd m
+named_err n (Err f) (Err i) h m e = let j : h ≡ i = cc in (f, refl, rw j m)
 
 -- a part of a window is that part of the file
 window_part : (file : Bytes) (at m s e : ℕ) → at ≤ s → e ≤ at + m → take (e - s) (drop (s - at) (take m (drop at file))) ≡ part file s e
@@ -65,12 +80,6 @@ module _ (file : Bytes) (off n at g : ℕ) (src : Bytes) (w : src ≡ take (min 
       by_frame _ (sym e)
       ∙ rw (eq-eqb f.number n k.0) (rw (eq-eqb f.generation g k.1) (rw k.2 (ap (λ (b : Bytes). Ok (used g b)) (same_body f l))))
   frame_read f (Err x) e l k = by_frame _ (sym e) ∙ rw (k.0, k.1) refl
-
-  pub frame_ends : (f : Frame) (r : Result Cell Fault) → FrameLies at (length src) f → FramedCell off n g f r → at < off → IfOk r (EndsBy off)
-  frame_ends f (Ok c) l k h =
-      let q = ap length w ∙ length-take (min (off - at) window_bytes) (drop at file) in
-      rw k.2 (l.1, omega (arith, l.2, l.3))
-  frame_ends f (Err x) l k h = tt
 
 -- a free entry is what it says itself
 pub free_read : (file : Bytes) (off n next g : ℕ) → state_of file off n (free_slot next g) ≡ Ok (free g next)

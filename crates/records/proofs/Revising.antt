@@ -111,7 +111,7 @@ module _ (file : Bytes) (h : List format.Revision) (revs : List Revision) (cells
   module _ (rows : Rows) (k : Link) (l : LinkRead file off rows k) (fits first : Bool) (listing : List Row) (old : List Cell)
       (f : fits ≡ cond first k.one_from_zero true) (g : first ≡ eqb (length revs) 0) (r : listing ≡ rows_held rows) (o : old ≡ newest_cells revs cells) where
     -- the code's checks are those of the next revision
-    checked_is : rows_checked fits off (told_by k.told) (rows_of listing) (states_in file old)
+    checked_is : rows_checked fits k.offset (told_by k.told) (rows_of listing) (states_in file old)
         ≡ rows_checked (subs_fit (is_first h) l.tree.sec.subsections) l.tree.sec.offset l.tree.says (listed l.tree.sec.subsections) (newest_or blank h).states
     checked_is =
         let n = newest_is file h revs cells t in
@@ -119,11 +119,11 @@ module _ (file : Bytes) (h : List format.Revision) (revs : List Revision) (cells
         let b : rows_of listing ≡ listed l.tree.sec.subsections = ap rows_of r ∙ sym l.listing in
         let c : states_in file old ≡ (newest_or blank h).states = ap (states_in file) o ∙ sym n.states in
         let d : told_by k.told ≡ l.tree.says = sym l.says in
-        let e : off ≡ l.tree.sec.offset = sym l.offset in
+        let e : k.offset ≡ l.tree.sec.offset = l.here ∙ sym l.offset in
         (λ i. rows_checked (a i) (e i) (d i) (b i) (c i))
 
     next_by : next_revision file h off
-        ≡ also (rows_checked fits off (told_by k.told) (rows_of listing) (states_in file old))
+        ≡ also (rows_checked fits k.offset (told_by k.told) (rows_of listing) (states_in file old))
         (λ n. also (states_of file off (rows_of listing)) (λ ts. Ok (revision_by l.tree n ts (newest_or blank h).states)))
     unfolding next_revision
     next_by =
@@ -132,10 +132,10 @@ module _ (file : Bytes) (h : List format.Revision) (revs : List Revision) (cells
         ∙ revision_by_fact file (is_first h) (newest_or blank h).states l.tree
         ∙ (λ i. also (sym checked_is i) (λ n. also (states_of file (l.offset i) (b i)) (λ ts. Ok (revision_by l.tree n ts (newest_or blank h).states))))
 
-    pub next_no_rows : (x : Fault) → Err x ≡ rows_checked fits off (told_by k.told) (rows_of listing) (states_in file old) → next_revision file h off ≡ Err x
+    pub next_no_rows : (x : Fault) → Err x ≡ rows_checked fits k.offset (told_by k.told) (rows_of listing) (states_in file old) → next_revision file h off ≡ Err x
     next_no_rows x e = next_by ∙ rw (← e) refl
 
-    module _ (n : ℕ) (c : Ok n ≡ rows_checked fits off (told_by k.told) (rows_of listing) (states_in file old)) where
+    module _ (n : ℕ) (c : Ok n ≡ rows_checked fits k.offset (told_by k.told) (rows_of listing) (states_in file old)) where
       pub next_no_objects : (x : Fault) → states_of file off (rows_of listing) ≡ Err x → next_revision file h off ≡ Err x
       next_no_objects x e = next_by ∙ rw (← c, e) refl
 
@@ -143,7 +143,7 @@ module _ (file : Bytes) (h : List format.Revision) (revs : List Revision) (cells
       next_made ts e = next_by ∙ rw (← c, e) refl
 
       -- the tables with the revision that was made
-      pub revised : (size : ℤ) → slots_fit off size (rows_of listing) ≡ Ok tt → (fresh : List (ℕ × Cell)) → CellsOf file off listing fresh → (after : List Revision) (whole : List Cell) →
+      pub revised : (size : ℤ) → slots_fit k.offset size (rows_of listing) ≡ Ok tt → (fresh : List (ℕ × Cell)) → CellsOf file off listing fresh → (after : List Revision) (whole : List Cell) →
           after ≡ revs ++ held_as k n (length cells) ∷ [] → whole ≡ cells ++ laid n 0 fresh (newest_cells revs cells) → length whole ≡ length cells + n → (newest_or blank h).offset ≤ off →
           (new : format.Revision) × (next_revision file h off ≡ Ok new) × (new.offset ≡ off) × TablesOf file (h ++ new ∷ []) after whole
       revised size fit fresh cs after whole a w len later =
@@ -157,7 +157,7 @@ module _ (file : Bytes) (h : List format.Revision) (revs : List Revision) (cells
           let z : overlaid n 0 ts (newest_or blank h).states ≡ states_in file more = ap (overlaid n 0 ts) m.states ∙ sym (laid_states file n 0 fresh (newest_cells revs cells)) in
           let b : bare (revision_by l.tree n ts (newest_or blank h).states) ≡ record { offset = held.offset; end = held.end; size = held.size; root = held.root; root_gen = held.root_generation; trailer = no_entries; states = states_in file more } =
           (λ i. record { offset = p i; end = l.ends i; size = n; root = (s i).root; root_gen = (s i).root_gen; trailer = no_entries; states = z i }) in
-          let ends : AllEndBy off more = laid_ends off n 0 fresh (newest_cells revs cells) (cs.ends size fit) (all_later (newest_or blank h).offset off (newest_cells revs cells) later m.ends) in
+          let ends : AllEndBy off more = laid_ends off n 0 fresh (newest_cells revs cells) (cs.ends size (rw l.here at fit)) (all_later (newest_or blank h).offset off (newest_cells revs cells) later m.ends) in
           (revision_by l.tree n ts (newest_or blank h).states, next_made ts cs.is, l.offset, tables_more file h revs after cells whole t (revision_by l.tree n ts (newest_or blank h).states) held more a w refl long b (rw l.here ends))
 
 -- what was said of the same rows and cells
@@ -173,6 +173,3 @@ tabled_more revs after cells whole k n t h a w =
       small = small_push revs (held_as k n (length cells)) t.small h;
       stacked = rw w (stacked_push 0 (length cells) revs (held_as k n (length cells)) t.stacked refl);
     })
-
-pub grown_length : (revs after : List Revision) (r : Revision) → after ≡ revs ++ r ∷ [] → length after ≡ length revs + 1
-grown_length revs after r e = ap length e ∙ length-append revs (r ∷ [])

@@ -1,6 +1,5 @@
 -- Tables one behind the other.
-use Rattle.std.proofs.Common.{◌≡◌, ℕ, zero, suc, ◌+◌, ◌-◌, ◌*◌, ◌<◌, ◌≤◌, List, [], ◌∷◌, ◌++◌, length, get_or, take, drop, sym, refl, ap, ◌∙◌, arith}
-use Rattle.std.proofs.lemmas.List.{get_or_default, length-take-le, take_rest}
+use Rattle.std.proofs.Common.{◌≡◌, ℕ, suc, ◌+◌, ◌-◌, ◌*◌, ◌<◌, ◌≤◌, List, [], ◌∷◌, ◌++◌, length, get_or, sym, refl, ap, ◌∙◌, arith}
 use Rattle.entries.specs.declared.cell.Cell.{Cell}
 use Rattle.entries.specs.declared.revision.Revision.{Revision}
 use Rattle.entries.specs.Tables.{Stacked}
@@ -50,36 +49,6 @@ last_some n (r ∷ q ∷ rs) d h =
 pub last_read : (n : ℕ) (rs slice : List Revision) (x : Revision) → slice ≡ rs → 0 < length slice → ((d : Revision) → x ≡ get_or slice (length slice - 1) d) → x.first ≡ last_first n rs
 last_read n rs slice x e h at = ap (λ (r : Revision). r.first) (at x) ∙ sym (last_some n slice x h) ∙ ap (last_first n) e
 
-pub cells_from : (cells slice : List Cell) (len start n : ℕ) → slice ≡ cells → len ≡ length cells → start ≡ n → take (len - start) (drop start slice) ≡ drop n cells
-cells_from cells slice len start n e l s = rw (e, l, s) (take_rest cells n)
-
 -- no tables
 pub tabled_none : (rs : List Revision) (cells : List Cell) → rs ≡ [] → cells ≡ [] → Tabled rs cells
 tabled_none rs cells e f = rw (e, f) (record { small = tt; stacked = refl })
-
--- the first tables stand one behind the other up to the end of the last of them
-keep_stacked : (s n : ℕ) (rs : List Revision) (i : ℕ) (d : Revision) → i < length rs → Stacked s n rs → ((get_or rs i d).first + (get_or rs i d).size ≤ n) × Stacked s ((get_or rs i d).first + (get_or rs i d).size) (take (suc i) rs)
-keep_stacked s n [] i d h k = absurd (omega arith)
-keep_stacked s n (r ∷ rs) zero d h k = let w = stacked_le (s + r.size) n rs k.1 in (omega (arith, k.0), (k.0, omega (arith, k.0)))
-keep_stacked s n (r ∷ rs) (suc i) d h k = let w = keep_stacked (s + r.size) n rs i d (omega arith) k.1 in (w.0, (k.0, w.1))
-
-keep_small : (rs : List Revision) (k : ℕ) → AllSmall rs → AllSmall (take k rs)
-keep_small rs zero a = tt
-keep_small [] (suc k) a = tt
-keep_small (r ∷ rs) (suc k) a = (a.0, keep_small rs k a.1)
-
-pub keep_within : (rs : List Revision) (cells : List Cell) (count : ℕ) (q : Revision) → 1 ≤ count → count ≤ length rs → Tabled rs cells → q ≡ get_or rs (count - 1) q → q.first + q.size ≤ length cells
-keep_within rs cells count q a b t e = let w = (keep_stacked 0 (length cells) rs (count - 1) q (omega arith) t.stacked).0 in rw (← e) at w
-
-pub keep_tabled : (rs after : List Revision) (cells rest : List Cell) (count : ℕ) (q : Revision) → 1 ≤ count → count ≤ length rs → Tabled rs cells → q ≡ get_or rs (count - 1) q → after ≡ take count rs → rest ≡ take (q.first + q.size) cells → Tabled after rest
-keep_tabled rs after cells rest count q a b t e f g =
-    let h = keep_within rs cells count q a b t e in
-    let w = (keep_stacked 0 (length cells) rs (count - 1) q (omega arith) t.stacked).1 in
-    let v : Stacked 0 (q.first + q.size) (take (suc (count - 1)) rs) = rw (← e) at w in
-    let n : suc (count - 1) ≡ count = omega arith in
-    let u : Stacked 0 (q.first + q.size) (take count rs) = rw n at v in
-    let l : length (take (q.first + q.size) cells) ≡ q.first + q.size = length-take-le (q.first + q.size) cells h in
-    rw (f, g) (record { small = keep_small rs count t.small; stacked = rw l u })
-
-pub keep_same : (rs : List Revision) (i : ℕ) (p q : Revision) → i < length rs → p ≡ get_or rs i p → q ≡ get_or rs i q → p ≡ q
-keep_same rs i p q h e f = e ∙ get_or_default rs i p q h ∙ sym f

@@ -81,6 +81,7 @@ pub fn open_file<S: Store>(
     let Some(newest) = newest_offset(store, &mut scratch.window) else {
         return Err(Fault::met(Reason::NoTail, Layer::Chain, length));
     };
+    // there is no `From` of `u64` for `usize`
     scratch.walk(store, newest as usize, length)?;
     read_revisions(store, scratch, tables)?;
     Ok(tables.len())

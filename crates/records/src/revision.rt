@@ -6,7 +6,6 @@ ghost use Rattle.entries.specs.Tables.{TablesOf};
 ghost use Rattle.records.specs.Tabled.{Revised, Tabled, cells_held, revisions_held};
 
 use crate::check::{check_rows, subsections_fit};
-use crate::listed::read_objects;
 use crate::revision_tables::Tables;
 use crate::scratch::Scratch;
 use faults::fault::Fault;
@@ -28,20 +27,8 @@ pub fn read_revision<S: Store>(
 {
     let link = scratch.read_link(store, offset)?;
     let fits = subsections_fit(tables.is_empty(), link.one_from_zero);
-    let size = check_rows(
-        fits,
-        offset,
-        link.told,
-        scratch.rows.as_slice(),
-        tables.newest_cells(),
-    )?;
-    read_objects(
-        store,
-        &mut scratch.window,
-        offset,
-        scratch.rows.as_slice(),
-        &mut scratch.listed,
-    )?;
+    let size = check_rows(fits, link, scratch.rows.as_slice(), tables.newest_cells())?;
+    scratch.read_objects(store, offset)?;
     tables.push(link, size, scratch.listed.as_slice());
     Ok(())
 }

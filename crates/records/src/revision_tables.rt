@@ -7,7 +7,7 @@ use entries::revision::Revision;
 
 mod methods;
 
-// How many revisions a file may have, the highest Size, and how many cells their tables have.
+// How many revisions a file may have, the highest Size, and how many cells their tables have. No `From` is called in a constant.
 pub const MOST_REVISIONS: usize = 64;
 
 pub const MOST_SIZE: usize = HIGHEST_NUMBER as usize + 1;

@@ -1,4 +1,4 @@
-// The checks of what a section lists.
+// The checks of what a section lists. A number or a place in an entry has 64 bits, as `usize` has, and `as` goes over: there is no `From`.
 ghost use Rattle.std.specs.Prelude.{◌≡◌, ℕ, ◌<◌, ◌≤◌, true, length, ℤ, IfSome};
 ghost use Rattle.faults.specs.declared.reason.Reason.TheVariants.{ChainRule};
 ghost use Rattle.format.specs.Chain.{in_bound};
@@ -21,10 +21,10 @@ const HIGHEST_USED: u32 = 65_534;
 const HIGHEST_FREE: u32 = 65_535;
 
 // A rule of the chain or of a table is broken: in the section at `offset`, for that object, 0 if none.
-pub fn broken_rule(offset: usize, number: usize) -> Fault
+pub fn broken_rule(offset: usize, number: u64) -> Fault
     ensures { result ≡ chain_fault ChainRule offset number }
 {
-    Fault::met(Reason::ChainRule, Layer::Chain, offset).of_object(number)
+    Fault::met(Reason::ChainRule, Layer::Chain, offset).of_object(number as usize)
 }
 
 // No number is too high.
@@ -79,9 +79,10 @@ fn entry_fits(offset: usize, size: i64, row: Row) -> bool
 pub fn slots_fit(offset: usize, size: i64, rows: &[Row]) -> Result<(), Fault>
     ensures { result ≡ slots_fit offset size (rows_of rows.now) }
 {
+    // what is found is the refusal, and nothing found the good answer: so it is no `ok_or`, and a match is plainer than `map_or`
     match rows.iter().find(|row| !entry_fits(offset, size, **row)) {
         None => Ok(()),
-        Some(row) => Err(broken_rule(offset, row.number as usize)),
+        Some(row) => Err(broken_rule(offset, row.number)),
     }
 }
 

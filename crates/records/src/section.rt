@@ -37,7 +37,6 @@ impl Scratch {
     // The same with what its trailer says: the checks of a section but for Prev and its end.
     pub(crate) fn read_link<S: Store>(&mut self, store: &S, offset: usize) -> Result<Link, Fault>
         ensures is { ReadsLink (S.Store.meaning store.now).bytes offset self.new.rows result }
-        ensures counts { length (S.Store.meaning store.now).bytes < 2 ^ 64 }
         ensures kept { self.new.offsets ≡ self.old.offsets }
     {
         let section = self.section_at(store, offset)?;

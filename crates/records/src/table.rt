@@ -24,6 +24,7 @@ pub fn lay(cells: &mut Vec<Cell>, first: usize, size: usize, listed: &[(u64, Cel
     ensures capacity { vec_capacity cells.new ≡ vec_capacity cells.old }
 {
     for n in 0..size {
+        // there is no `From` of `usize` for `u64`
         let cell = match listed_cell(listed, n as u64) {
             Some(cell) => cell,
             None => cells[first + n],

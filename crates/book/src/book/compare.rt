@@ -1,5 +1,5 @@
 // What became of an object between two revisions.
-ghost use Rattle.std.specs.Prelude.{◌≡◌, ◌^◌, ◌<◌, length};
+ghost use Rattle.std.specs.Prelude.{◌≡◌};
 ghost use Rattle.book.specs.Books.{moment_of};
 ghost use Rattle.book.specs.Differences.{Lies, LiesIf, ask_differ, became, body_in, same_in};
 
@@ -31,7 +31,6 @@ impl<S: Store> Book<S> {
 }
 
 fn compare<S: Store>(store: &S, before: Option<Body>, after: Option<Body>) -> Option<Difference>
-    requires counts { length (S.Store.meaning store.now).bytes < 2 ^ 64 }
     requires first { LiesIf (S.Store.meaning store.now).bytes before }
     requires second { LiesIf (S.Store.meaning store.now).bytes after }
     ensures { result ≡ became (body_in (S.Store.meaning store.now).bytes before) (body_in (S.Store.meaning store.now).bytes after) }
@@ -52,7 +51,6 @@ fn compare<S: Store>(store: &S, before: Option<Body>, after: Option<Body>) -> Op
 
 // Whether two objects have the same generation and the same body. Bodies at the same place, or of other lengths, are not read.
 fn same_object<S: Store>(store: &S, a: Body, b: Body) -> bool
-    requires counts { length (S.Store.meaning store.now).bytes < 2 ^ 64 }
     requires first { Lies (S.Store.meaning store.now).bytes a }
     requires second { Lies (S.Store.meaning store.now).bytes b }
     ensures { result ≡ same_in (S.Store.meaning store.now).bytes a b }
@@ -60,12 +58,11 @@ fn same_object<S: Store>(store: &S, a: Body, b: Body) -> bool
     if a.generation != b.generation {
         return false;
     }
-    let count = a.end - a.start;
-    if count != b.end - b.start {
+    if a.end - a.start != b.end - b.start {
         return false;
     }
     if a.start == b.start {
         return true;
     }
-    same_parts(store, a.start, b.start, count)
+    same_parts(store, a, b)
 }

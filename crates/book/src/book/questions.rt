@@ -7,7 +7,7 @@ ghost use Rattle.book.specs.Asked.{Draws, Fetches, RowAsked, listed};
 use super::Book;
 use crate::call::Phase;
 use crate::copies::{body_into, join};
-use crate::rows::{body_of, count_used, row_of};
+use crate::rows::{body_of, cells_of, row_of, used_in};
 use entries::revision::Revision;
 use faults::fault::Fault;
 use faults::reason::Reason;
@@ -38,7 +38,7 @@ impl<S: Store> Book<S> {
         ensures { listed result ≡ ask_list (moment_of S.Store.meaning self.now) k }
     {
         let row = self.row(k, 0)?;
-        let in_use = count_used(self.memory.tables.cells(), row.first, row.size);
+        let in_use = used_in(cells_of(self.memory.tables.cells(), row));
         Ok(Listing {
             offset: row.offset,
             end: row.end,
@@ -55,7 +55,7 @@ impl<S: Store> Book<S> {
         let Some(body) = body_of(self.memory.tables.cells(), row, n) else {
             return Err(Fault::refused(Reason::NotInUse, n));
         };
-        let length = body_into(&self.store, body.start, body.end, n, buffer)?;
+        let length = body_into(&self.store, body, n, buffer)?;
         Ok((body.generation, length))
     }
 

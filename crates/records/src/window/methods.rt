@@ -1,9 +1,13 @@
 // The calls of a window.
-ghost use Rattle.std.specs.Prelude.{◌≡◌, ◌≤◌, min, [], length, take, drop, IfOk};
+ghost use Rattle.std.specs.Prelude.{◌≡◌, ◌-◌, ◌≤◌, min, [], length, take, drop, IfOk};
 ghost use Rattle.format.specs.Chain.{window_bytes};
+ghost use Rattle.format.specs.Frames.{frame};
+ghost use Rattle.objects.specs.Framing.{FrameLies, framed_at};
 ghost use Rattle.records.specs.Windows.{seen_in};
 
 use super::{WINDOW_BYTES, Window};
+use faults::fault::Fault;
+use objects::frame::{Frame, read_frame_at};
 use std::alloc::{AllocError, Global};
 use stores::store::Store;
 
@@ -37,5 +41,15 @@ impl Window {
         ensures { result.now ≡ seen_in self.now }
     {
         &self.bytes.as_slice()[0..self.used]
+    }
+
+    // The object that stands at `at` in the store; it is never read from `end` on.
+    pub fn frame_at<S: Store>(&mut self, store: &S, at: usize, end: usize) -> Result<Frame, Fault>
+        ensures seen { seen_in self.new ≡ take (min (end - at) window_bytes) (drop at (S.Store.meaning store.now).bytes) }
+        ensures is { framed_at at (seen_in self.new) result ≡ frame at (seen_in self.new) }
+        ensures within { IfOk result (FrameLies at (length (seen_in self.new))) }
+    {
+        self.fill(store, at, end.saturating_sub(at));
+        read_frame_at(at, self.seen())
     }
 }

@@ -7,6 +7,6 @@ pub returns : goal.returns
 unfolding fill_start
 returns g c =
     let file = (g.S.Store.meaning c.args.store.now).bytes in
-    let b = part file c.args.start c.args.end in
-    let l : c.args.end - c.args.start ≡ length b = simp (length-take, length-drop) (omega (arith, c.requires.inside)) in
+    let b = part file c.args.body.start c.args.body.end in
+    let l : c.args.body.end - c.args.body.start ≡ length b = simp (length-take, length-drop) (omega (arith, c.requires)) in
     (omega arith, refl, c.fill.ensures ∙ ap (λ k. b ++ drop k c.args.buffer.now) l)

@@ -1,6 +1,6 @@
-use Rattle.std.proofs.Common.{◌≡◌, [], ◌∷◌, ◌++◌, length, Err, vec_items, vec_len, sym, ap, ◌∙◌, arith}
+use Rattle.std.proofs.Common.{◌≡◌, [], ◌∷◌, ◌++◌, length, vec_items, vec_len, sym, ap, ◌∙◌, arith}
 use Rattle.std.proofs.lemmas.List.{nil_from_length}
-use Rattle.std.proofs.lemmas.Result.{err_from_is_err_and}
+use Rattle.records.proofs.Answering.{handed}
 use Rattle.records.proofs.Openings.{reading_start, reading_stop, reading_on, reading_end, later}
 use Rattle.records.proofs.Tabling.{tabled_none}
 use Rattle.records.proofs.open.read_revisions.Goals as goal
@@ -27,24 +27,17 @@ loop-offset-preserved g c =
           reading_on file ls (vec_items c.read_revision.new.scratch.offsets) (vec_items c.loop-offset.scratch.offsets) (vec_items c.loop-offset.tables.revisions) (vec_items c.loop-offset.tables.cells) c.in-Some.offset p r t.0 (vec_items c.read_revision.new.tables.revisions) (vec_items c.read_revision.new.tables.cells) t.1 t.2 t.3,
     )
 
-pub returns-in_err-read_revision : goal.returns-in_err-read_revision
-returns-in_err-read_revision g c =
+pub returns-in_err-read_revision-clause-is : goal.returns-in_err-read_revision-clause-is
+returns-in_err-read_revision-clause-is g c =
     let file = (g.S.Store.meaning c.args.store.now).bytes in
-    let q = err_from_is_err_and c.from_residual.result c.from_residual.ensures.1 in
-    let z : c.from_residual.result ≡ Err c.in_err-read_revision.field-0.0 = cc in
+    let z = handed c.from_residual.result c.in_err-read_revision.field-0.0 c.from_residual.ensures.1 in
     let p : vec_items c.loop-offset.scratch.offsets ≡ vec_items c.pop.new.self ++ c.in-Some.offset ∷ [] = c.in-Some.ensures.items in
-    rw z (record {
-      is =
-          (λ ls l.
-          let r = c.loop-offset.invariant.2 ls l in
-          reading_stop file ls (vec_items c.pop.new.self) (vec_items c.loop-offset.scratch.offsets) (vec_items c.loop-offset.tables.revisions) (vec_items c.loop-offset.tables.cells) c.in-Some.offset p r c.in_err-read_revision.field-0.0
-          (c.in_err-read_revision.ensures.is r.h r.tables (later file ls (vec_items c.pop.new.self) (vec_items c.loop-offset.scratch.offsets) (vec_items c.loop-offset.tables.revisions) (vec_items c.loop-offset.tables.cells) c.in-Some.offset p r)));
-      tabled = c.in_err-read_revision.ensures.tabled;
-    })
+    rw z
+    (λ ls l.
+    let r = c.loop-offset.invariant.2 ls l in
+    reading_stop file ls (vec_items c.pop.new.self) (vec_items c.loop-offset.scratch.offsets) (vec_items c.loop-offset.tables.revisions) (vec_items c.loop-offset.tables.cells) c.in-Some.offset p r c.in_err-read_revision.field-0.0
+    (c.in_err-read_revision.ensures.is r.h r.tables (later file ls (vec_items c.pop.new.self) (vec_items c.loop-offset.scratch.offsets) (vec_items c.loop-offset.tables.revisions) (vec_items c.loop-offset.tables.cells) c.in-Some.offset p r)))
 
-pub returns : goal.returns
-returns g c =
-    record {
-      is = λ ls l. reading_end (g.S.Store.meaning c.args.store.now).bytes ls (vec_items c.loop-offset.scratch.offsets) (vec_items c.loop-offset.tables.revisions) (vec_items c.loop-offset.tables.cells) (nil_from_length (vec_items c.loop-offset.scratch.offsets) (omega (arith, c.in_default.ensures.cases.0, c.loop-offset.scratch.offsets.ok.0))) (c.loop-offset.invariant.2 ls l);
-      tabled = c.loop-offset.invariant.0;
-    }
+pub returns-clause-is : goal.returns-clause-is
+returns-clause-is g c =
+    λ ls l. reading_end (g.S.Store.meaning c.args.store.now).bytes ls (vec_items c.loop-offset.scratch.offsets) (vec_items c.loop-offset.tables.revisions) (vec_items c.loop-offset.tables.cells) (nil_from_length (vec_items c.loop-offset.scratch.offsets) (omega (arith, c.in_default.ensures.cases.0, c.loop-offset.scratch.offsets.ok.0))) (c.loop-offset.invariant.2 ls l)

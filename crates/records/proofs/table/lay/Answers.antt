@@ -1,4 +1,4 @@
-use Rattle.std.proofs.Common.{◌≡◌, ◌+◌, vec_items, sym, ◌∙◌, arith}
+use Rattle.std.proofs.Common.{◌+◌, vec_items, sym, ◌∙◌, arith}
 use Rattle.records.proofs.Laying.{lay_by, lay_listed, lay_before, lay_end}
 use Rattle.records.proofs.table.lay.Goals as goal
 use Rattle.records.proofs.table.lay.Goals.{in-Some, in-None}
@@ -23,11 +23,6 @@ loop-n-preserved c =
       ],
     )
 
-pub returns : goal.returns
-returns c =
-    let e : c.loop-n.n ≡ c.args.size = omega arith in
-    record {
-      items = lay_end (vec_items c.loop-n.cells) (vec_items c.args.cells.now) c.args.first c.args.size c.loop-n.n c.args.listed.now c.loop-n-test.false c.loop-n.invariant.2;
-      len = omega arith;
-      capacity = c.loop-n.invariant.1;
-    }
+pub returns-clause-items : goal.returns-clause-items
+returns-clause-items c =
+    lay_end (vec_items c.loop-n.cells) (vec_items c.args.cells.now) c.args.first c.args.size c.loop-n.n c.args.listed.now c.loop-n-test.false c.loop-n.invariant.2

@@ -1,14 +1,7 @@
-use Rattle.std.proofs.Common.{◌≡◌, Err, refl}
-use Rattle.std.proofs.lemmas.Result.{err_from_is_err_and}
+use Rattle.std.proofs.Common.{refl}
 use Rattle.records.specs.Trailers.{seen_by}
 use Rattle.records.proofs.Sectioned.{trailer_seen}
 use Rattle.records.proofs.trailer.read_trailer.Goals as goal
-
-pub returns-in_err-section-clause-is : goal.returns-in_err-section-clause-is
-returns-in_err-section-clause-is g c =
-    let p = err_from_is_err_and c.from_residual.result c.from_residual.ensures.1 in
-    let z : c.from_residual.result ≡ Err c.in_err-section.field-0.0 = cc in
-    rw z c.in_err-section.ensures.is
 
 pub returns-clause-is : goal.returns-clause-is
 returns-clause-is g c =

@@ -1,6 +1,6 @@
 use Rattle.std.proofs.Common.{◌≡◌, Ok, Err, refl, ap, ◌∙◌, subst}
-use Rattle.std.proofs.lemmas.Result.{err_from_is_err_and}
 use Rattle.format.specs.Book.{commit, spent_after, phase_after}
+use Rattle.records.proofs.Answering.{handed}
 use Rattle.book.specs.Books.{Performs}
 use Rattle.book.proofs.Performed.{rows_counted, stands_after}
 use Rattle.book.proofs.book.Book.commit.Goals as goal
@@ -8,8 +8,7 @@ use Rattle.book.proofs.book.Book.commit.Goals as goal
 pub returns-in_err-perform : goal.returns-in_err-perform
 unfolding spent_after
 returns-in_err-perform g c =
-    let p = err_from_is_err_and c.from_residual.result c.from_residual.ensures.1 in
-    let z : c.from_residual.result ≡ Err c.in_err-perform.field-0.0 = cc in
+    let z = handed c.from_residual.result c.in_err-perform.field-0.0 c.from_residual.ensures.1 in
     let k = ap commit c.is_spent-spent.ensures in
     rw z (record { performs = subst (λ x. Performs g.S.Store.meaning c.args.self.now x (Err c.in_err-perform.field-0.0) c.perform.new.self) k c.in_err-perform.ensures; counted = tt; slip = refl })
 

@@ -1,15 +1,14 @@
 use Rattle.std.proofs.Common.{◌≡◌, length, Ok, Err, sym, ap, ◌∙◌, subst, arith}
-use Rattle.std.proofs.lemmas.Result.{err_from_is_err_and}
+use Rattle.records.proofs.Answering.{handed}
 use Rattle.book.specs.Books.{moment_of, revisions_in, cells_in}
 use Rattle.book.specs.Rows.{BodyFound}
-use Rattle.book.proofs.Compared.{opened_short, revision_of, lies, differ_first, differ_second, differ_by_cells}
+use Rattle.book.proofs.Compared.{revision_of, lies, differ_first, differ_second, differ_by_cells}
 use Rattle.book.proofs.Questioned.{row_within}
 use Rattle.book.proofs.book.Book.differ.Goals as goal
 
 pub returns-in_err-earlier : goal.returns-in_err-earlier
 returns-in_err-earlier g c =
-    let p = err_from_is_err_and c.from_residual.result c.from_residual.ensures.1 in
-    let z : c.from_residual.result ≡ Err c.in_err-earlier.field-0.0 = cc in
+    let z = handed c.from_residual.result c.in_err-earlier.field-0.0 c.from_residual.ensures.1 in
     z ∙ sym (differ_first _ c.args.j c.args.k c.args.n _ c.in_err-earlier.ensures)
 
 pub returns-in_err-later : goal.returns-in_err-later
@@ -17,8 +16,7 @@ returns-in_err-later g c =
     let r = c.in_ok-earlier.ensures in
     let m = moment_of g.S.Store.meaning c.args.self.now in
     let v = revision_of m (revisions_in c.args.self.now) (cells_in c.args.self.now) c.args.n c.args.j c.in_ok-earlier.earlier r.0 r.1 in
-    let p = err_from_is_err_and c.from_residual-in_err-later.result c.from_residual-in_err-later.ensures.1 in
-    let z : c.from_residual-in_err-later.result ≡ Err c.in_err-later.field-0.0 = cc in
+    let z = handed c.from_residual-in_err-later.result c.in_err-later.field-0.0 c.from_residual-in_err-later.ensures.1 in
     z ∙ sym (differ_second m c.args.j c.args.k c.args.n v.0 _ v.1 c.in_err-later.ensures)
 
 pub body_of-before-requires : goal.body_of-before-requires
@@ -45,7 +43,6 @@ compare-requires g c =
     let x = subst (λ t. BodyFound t c.in_ok-earlier.earlier c.args.n c.body_of-before.result) c.cells.ensures c.body_of-before.ensures in
     let y = subst (λ t. BodyFound t c.in_ok-later.later c.args.n c.body_of-after.result) c.cells-2.ensures c.body_of-after.ensures in
     record {
-      counts = omega (arith, opened_short m.store.bytes r.0.opened r.0.accepted);
       first = lies m rs cs c.args.j c.args.n c.in_ok-earlier.earlier _ r.0 r.1 x;
       second = lies m rs cs c.args.k c.args.n c.in_ok-later.later _ s.0 s.1 y;
     }

@@ -1,17 +1,16 @@
 use Rattle.std.proofs.Common.{◌≡◌, take, Ok, Err, sym, refl, ap, ◌∙◌, arith}
-use Rattle.std.proofs.lemmas.Result.{err_from_is_err_and}
 use Rattle.std.proofs.lemmas.Bool.{le-leb, lt-leb}
 use Rattle.faults.specs.declared.reason.Reason.TheVariants.{NoSpace}
 use Rattle.faults.specs.Faults.{refused}
 use Rattle.format.specs.Chain.{must}
 use Rattle.keeping.proofs.Asked.{draw_rows}
+use Rattle.records.proofs.Answering.{handed}
 use Rattle.book.proofs.Questioned.{draw_refused}
 use Rattle.book.proofs.book.Book.draw.Goals as goal
 
 pub returns-in_err-row : goal.returns-in_err-row
 returns-in_err-row g c =
-    let p = err_from_is_err_and c.from_residual.result c.from_residual.ensures.1 in
-    let z : c.from_residual.result ≡ Err c.in_err-row.field-0.0 = cc in
+    let z = handed c.from_residual.result c.in_err-row.field-0.0 c.from_residual.ensures.1 in
     rw z (draw_refused _ c.args.k _ _ c.in_err-row.ensures, refl)
 
 pub returns-then-row-space : goal.returns-then-row-space

@@ -1,7 +1,7 @@
 use Rattle.std.proofs.Common.{◌≡◌, ◌-◌, length, Some, Err, sym, refl, ap, ◌∙◌, subst, arith, length-drop, length-take}
-use Rattle.std.proofs.lemmas.Result.{err_from_is_err_and}
 use Rattle.keeping.proofs.Asked.{fetch_cells}
 use Rattle.entries.specs.Cells.{part}
+use Rattle.records.proofs.Answering.{handed}
 use Rattle.book.specs.Books.{moment_of, revisions_in, cells_in}
 use Rattle.book.specs.Copies.{BodyInto}
 use Rattle.book.specs.Rows.{BodyFound}
@@ -10,8 +10,7 @@ use Rattle.book.proofs.book.Book.fetch.Goals as goal
 
 pub returns-in_err-row : goal.returns-in_err-row
 returns-in_err-row g c =
-    let p = err_from_is_err_and c.from_residual.result c.from_residual.ensures.1 in
-    let z : c.from_residual.result ≡ Err c.in_err-row.field-0.0 = cc in
+    let z = handed c.from_residual.result c.in_err-row.field-0.0 c.from_residual.ensures.1 in
     rw z (fetch_refused _ c.args.k c.args.n _ _ c.in_err-row.ensures, refl)
 
 pub body_of-requires : goal.body_of-requires
@@ -27,15 +26,14 @@ body_into-requires g c =
     let m = moment_of g.S.Store.meaning c.args.self.now in
     let a = subst (λ cs. BodyFound cs c.in_ok-row.row c.args.n (Some c.in-Some.body)) c.cells.ensures c.in-Some.ensures in
     let e = (fetch_cells m (revisions_in c.args.self.now) (cells_in c.args.self.now) c.args.k c.args.n 0 r.0).ends c.in_ok-row.row _ r.1 a in
-    record { order = e.0; inside = e.1 }
+    e
 
 pub returns-in_err-length : goal.returns-in_err-length
 returns-in_err-length g c =
     let r = c.in_ok-row.ensures in
     let m = moment_of g.S.Store.meaning c.args.self.now in
     let a = subst (λ cs. BodyFound cs c.in_ok-row.row c.args.n (Some c.in-Some.body)) c.cells.ensures c.in-Some.ensures in
-    let p = err_from_is_err_and c.from_residual-in_err-length.result c.from_residual-in_err-length.ensures.1 in
-    let z : c.from_residual-in_err-length.result ≡ Err c.in_err-length.field-0.0 = cc in
+    let z = handed c.from_residual-in_err-length.result c.in_err-length.field-0.0 c.from_residual-in_err-length.ensures.1 in
     let b = subst (λ x. BodyInto (part (g.S.Store.meaning c.args.self.now.store).bytes c.in-Some.body.start c.in-Some.body.end) (c.in-Some.body.end - c.in-Some.body.start) c.args.n c.args.buffer.now x c.body_into.new.buffer) c.in_err-length.was c.body_into.ensures in
     rw z (too_short m (revisions_in c.args.self.now) (cells_in c.args.self.now) c.args.k c.args.n _ _ _ _ c.in_ok-row.row r.0 r.1 a b.0 ∙ ap Err (sym b.1), b.2)
 

@@ -1,9 +1,9 @@
 use Rattle.std.proofs.Common.{◌≡◌, false, Ok, Err, sym, refl, ap, ◌∙◌, subst}
-use Rattle.std.proofs.lemmas.Result.{err_from_is_err_and}
 use Rattle.format.specs.Book.{put, updating, decide, newest}
 use Rattle.format.specs.Updates.{with_change, body}
 use Rattle.keeping.specs.Standing.{SoundIn}
 use Rattle.keeping.proofs.Sound.{sound_stays}
+use Rattle.records.proofs.Answering.{handed}
 use Rattle.book.specs.Books.{update_in, revisions_in, cells_in}
 use Rattle.writer.specs.Helds.{update_of}
 use Rattle.book.specs.Calls.{phase_of}
@@ -25,8 +25,7 @@ returns-in_err-decide_put g c =
     let f = (g.S.Store.meaning b.store).bytes in
     let t = newest_table g.S.Store.meaning b c.args.self.now.sound c.requires _ c.revisions.ensures c.last_row-row.result c.last_row-row.ensures _ c.cells.ensures _ c.cells_of-cells.ensures in
     let d = c.in_err-decide_put.ensures f (newest f) t in
-    let p = err_from_is_err_and c.from_residual.result c.from_residual.ensures.1 in
-    let z : c.from_residual.result ≡ Err c.in_err-decide_put.field-0.0 = cc in
+    let z = handed c.from_residual.result c.in_err-decide_put.field-0.0 c.from_residual.ensures.1 in
     rw z (refused_to b _ (put false c.args.number c.args.body.now) c.in_err-decide_put.field-0.0 (updating (update_in b)) (updating_phase g.S.Store.meaning b b.sound c.requires) (sym d) refl)
 
 pub put-requires : goal.put-requires

@@ -1,9 +1,9 @@
 use Rattle.std.proofs.Common.{◌≡◌, Ok, Err, sym, refl, ap, subst}
-use Rattle.std.proofs.lemmas.Result.{err_from_is_err_and}
 use Rattle.format.specs.Book.{open_file, shut, standing}
 use Rattle.keeping.specs.Standing.{SoundIn}
 use Rattle.keeping.proofs.Sound.{sound_stays}
 use Rattle.records.specs.Tabled.{revisions_held, cells_held}
+use Rattle.records.proofs.Answering.{handed}
 use Rattle.book.specs.Books.{update_in}
 use Rattle.book.specs.Calls.{phase_of}
 use Rattle.book.proofs.Performed.{performs_at}
@@ -14,8 +14,7 @@ pub returns-in_err-open_file : goal.returns-in_err-open_file
 returns-in_err-open_file g c =
     let b = c.args.self.now in
     let m = g.S.Store.meaning in
-    let p = err_from_is_err_and c.from_residual.result c.from_residual.ensures.1 in
-    let z : c.from_residual.result ≡ Err c.in_err-open_file.field-0.0 = cc in
+    let z = handed c.from_residual.result c.in_err-open_file.field-0.0 c.from_residual.ensures.1 in
     let e = ap (λ q. phase_of q (update_in b)) c.requires in
     rw z (performs_at b _ open_file (Err c.in_err-open_file.field-0.0) shut shut e e (unopened_step (m b.store) _ c.in_err-open_file.ensures.is))
 

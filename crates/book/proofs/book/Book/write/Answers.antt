@@ -1,8 +1,8 @@
 use Rattle.std.proofs.Common.{◌≡◌, ◌+◌, ◌≤◌, false, Ok, Err, sym, refl, ◌∙◌, subst, arith}
-use Rattle.std.proofs.lemmas.Result.{err_from_is_err_and}
 use Rattle.stores.specs.Meanings.{Appends}
 use Rattle.format.specs.Book.{blank, commit, updating, decide, newest_or}
 use Rattle.records.specs.Tabled.{Revised, revisions_held, cells_held}
+use Rattle.records.proofs.Answering.{handed}
 use Rattle.book.specs.declared.book.Memory.{Memory}
 use Rattle.book.specs.Books.{update_in}
 use Rattle.book.proofs.Committed.{from_before, offset_small, few_rows, rows_tabled, committed_sound, committed}
@@ -16,8 +16,7 @@ returns-in_err-check_commit g c =
     let b = c.args.self.now in
     let b' = c.draft-objects.new.self in
     let D = c.draft-objects.ensures in
-    let p = err_from_is_err_and c.from_residual.result c.from_residual.ensures.1 in
-    let z : c.from_residual.result ≡ Err c.in_err-check_commit.field-0.0 = cc in
+    let z = handed c.from_residual.result c.in_err-check_commit.field-0.0 c.from_residual.ensures.1 in
     let e = D.phase ∙ c.requires in
     rw z (from_before m b b' _ D (commit false) (Err c.in_err-check_commit.field-0.0) b'
     (refused_at m b' (commit false) c.in_err-check_commit.field-0.0 (updating (update_in b')) (updating_phase m b' b'.sound e) (sym c.in_err-check_commit.ensures) b'.sound))

@@ -5,8 +5,8 @@ use Rattle.entries.specs.Cells.{part}
 use Rattle.book.proofs.Compared.{unlike_lengths, part_length, same_part}
 use Rattle.book.proofs.book.compare.same_object.Goals as goal
 
-pub returns-then-count-b : goal.returns-then-count-b
-returns-then-count-b g c =
+pub returns-then-a-b-2 : goal.returns-then-a-b-2
+returns-then-a-b-2 g c =
     let file = (g.S.Store.meaning c.args.store.now).bytes in
     let a = c.args.a in
     let b = c.args.b in
@@ -16,8 +16,8 @@ returns-then-count-b g c =
     let u = unlike_lengths (part file a.start a.end) (part file b.start b.end) (λ z. omega (arith, p, q, z)) in
     sym (ap (λ t. t && same (part file a.start a.end) (part file b.start b.end)) e ∙ u)
 
-pub returns-then-a-b-2 : goal.returns-then-a-b-2
-returns-then-a-b-2 g c =
+pub returns-then-a-b-3 : goal.returns-then-a-b-3
+returns-then-a-b-3 g c =
     let file = (g.S.Store.meaning c.args.store.now).bytes in
     let a = c.args.a in
     let b = c.args.b in

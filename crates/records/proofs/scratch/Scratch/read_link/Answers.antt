@@ -1,9 +1,9 @@
-use Rattle.std.proofs.Common.{◌≡◌, Err, sym, ap, ◌∙◌, arith}
-use Rattle.std.proofs.lemmas.Result.{err_from_is_err_and}
+use Rattle.std.proofs.Common.{Err, sym, ap, ◌∙◌, arith}
 use Rattle.format.specs.Chain.{in_bound, window_bytes}
 use Rattle.entries.specs.Rows.{rows_of}
 use Rattle.opening.specs.Trailers.{told_of}
 use Rattle.records.specs.Windows.{seen_in}
+use Rattle.records.proofs.Answering.{handed}
 use Rattle.records.proofs.Checking.{link_bad}
 use Rattle.records.proofs.Reading.{window_counts}
 use Rattle.records.proofs.Sectioned.{read_high, read_untold, read_told, read_places}
@@ -12,8 +12,7 @@ use Rattle.records.proofs.scratch.Scratch.read_link.Goals as goal
 pub returns-in_err-section-clause-is : goal.returns-in_err-section-clause-is
 returns-in_err-section-clause-is g c =
     let file = (g.S.Store.meaning c.args.store.now).bytes in
-    let p = err_from_is_err_and c.from_residual.result c.from_residual.ensures.1 in
-    let z : c.from_residual.result ≡ Err c.in_err-section.field-0.0 = cc in
+    let z = handed c.from_residual.result c.in_err-section.field-0.0 c.from_residual.ensures.1 in
     rw z (link_bad file c.args.offset c.in_err-section.field-0.0 c.in_err-section.ensures.is)
 
 pub returns-then-not-in_bound-clause-is : goal.returns-then-not-in_bound-clause-is

@@ -1,30 +1,19 @@
 use Rattle.std.proofs.Common.{◌≡◌, ◌+◌, ◌∷◌, ◌++◌, [], Some, None, Err, vec_items, vec_len, sym, ap, ◌∙◌, arith}
-use Rattle.std.proofs.lemmas.Result.{err_from_is_err_and}
 use Rattle.records.specs.declared.chain.Ending.TheVariants.{At, By}
+use Rattle.records.proofs.Answering.{handed}
 use Rattle.records.proofs.Chaining.{read_as, walk_stop, walk_last, walk_on, walk_out, walking_as}
 use Rattle.records.proofs.scratch.Scratch.walk.Goals as goal
 
-pub returns-in_err-before : goal.returns-in_err-before
-returns-in_err-before g c =
-    let p = err_from_is_err_and c.from_residual.result c.from_residual.ensures.1 in
-    let z : c.from_residual.result ≡ Err c.in_err-before.field-0.0 = cc in
-    let k = ap vec_len c.in_err-before.ensures.kept in
-    record {
-      is = rw z (walk_stop (g.S.Store.meaning c.args.store.now).bytes c.args.newest (vec_len c.loop.self.offsets) c.loop.offset (At c.args.length) c.loop.ending (vec_items c.loop.self.offsets) (omega arith) c.loop.invariant.1 c.in_err-before.field-0.0 c.in_err-before.ensures.is);
-      few = omega arith;
-    }
+pub returns-in_err-before-clause-is : goal.returns-in_err-before-clause-is
+returns-in_err-before-clause-is g c =
+    let z = handed c.from_residual.result c.in_err-before.field-0.0 c.from_residual.ensures.1 in
+    rw z (walk_stop (g.S.Store.meaning c.args.store.now).bytes c.args.newest (vec_len c.loop.self.offsets) c.loop.offset (At c.args.length) c.loop.ending (vec_items c.loop.self.offsets) (omega arith) c.loop.invariant.1 c.in_err-before.field-0.0 c.in_err-before.ensures.is)
 
-pub push_reserved-requires : goal.push_reserved-requires
-push_reserved-requires g c = let k = ap vec_len c.in_ok-before.ensures.kept in omega arith
-
-pub returns-in_default : goal.returns-in_default
-returns-in_default g c =
+pub returns-in_default-clause-is : goal.returns-in_default-clause-is
+returns-in_default-clause-is g c =
     let k = ap vec_len c.in_ok-before.ensures.kept in
     let a : vec_items c.push_reserved.new.self ≡ vec_items c.loop.self.offsets ++ c.loop.offset ∷ [] = c.push_reserved.ensures.items ∙ ap (λ v. vec_items v ++ c.loop.offset ∷ []) c.in_ok-before.ensures.kept in
-    record {
-      is = walk_last (g.S.Store.meaning c.args.store.now).bytes c.args.newest (vec_len c.loop.self.offsets) c.loop.offset (At c.args.length) c.loop.ending (vec_items c.loop.self.offsets) (omega arith) c.loop.invariant.1 (vec_items c.push_reserved.new.self) a (read_as (g.S.Store.meaning c.args.store.now).bytes c.loop.offset c.loop.ending c.in_ok-before.before None c.in_default.is c.in_ok-before.ensures.is);
-      few = omega arith;
-    }
+    walk_last (g.S.Store.meaning c.args.store.now).bytes c.args.newest (vec_len c.loop.self.offsets) c.loop.offset (At c.args.length) c.loop.ending (vec_items c.loop.self.offsets) (omega arith) c.loop.invariant.1 (vec_items c.push_reserved.new.self) a (read_as (g.S.Store.meaning c.args.store.now).bytes c.loop.offset c.loop.ending c.in_ok-before.before None c.in_default.is c.in_ok-before.ensures.is)
 
 pub loop-preserved : goal.loop-preserved
 loop-preserved g c =
@@ -35,8 +24,6 @@ loop-preserved g c =
           (walk_on (g.S.Store.meaning c.args.store.now).bytes c.args.newest (vec_len c.loop.self.offsets) c.loop.offset (At c.args.length) c.loop.ending (vec_items c.loop.self.offsets) (omega arith) c.loop.invariant.1 (vec_items c.push_reserved.new.self) c.in-Some.place a (read_as (g.S.Store.meaning c.args.store.now).bytes c.loop.offset c.loop.ending c.in_ok-before.before (Some c.in-Some.place) c.in-Some.is c.in_ok-before.ensures.is)),
     )
 
-pub returns : goal.returns
-returns g c = record {
-  is = walk_out (g.S.Store.meaning c.args.store.now).bytes c.args.newest (vec_len c.loop.self.offsets) c.loop.offset (At c.args.length) c.loop.ending (vec_items c.loop.self.offsets) (omega arith) c.loop.invariant.1 ∙ ap Err (sym c.met.ensures);
-  few = omega arith;
-}
+pub returns-clause-is : goal.returns-clause-is
+returns-clause-is g c =
+    walk_out (g.S.Store.meaning c.args.store.now).bytes c.args.newest (vec_len c.loop.self.offsets) c.loop.offset (At c.args.length) c.loop.ending (vec_items c.loop.self.offsets) (omega arith) c.loop.invariant.1 ∙ ap Err (sym c.met.ensures)
