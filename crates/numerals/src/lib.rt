@@ -1,8 +1,8 @@
-// Numbers as a command writes them: decimal numerals.
+// Numbers as a command writes them, in decimal, and as bytes are shown, in hex.
 #![tactic(auto)]
 
-ghost use Rattle.std.specs.Prelude.{MatchOption};
-ghost use Rattle.numerals.specs.Numbers.{Decimal, NumberIn};
+ghost use Rattle.std.specs.Prelude.{◌≡◌, ◌<◌, ◌≤◌, MatchOption};
+ghost use Rattle.numerals.specs.Numbers.{Decimal, hex_digit, NumberIn};
 
 // The longest numeral that always fits.
 const MOST_DIGITS: usize = 19;
@@ -18,9 +18,19 @@ pub fn decimal(text: &str) -> Option<usize>
     text.parse().ok()
 }
 
+// The hex digit of a number below 16, where this letter stands for ten.
+pub fn hex_digit(n: u8, ten: u8) -> u8
+    requires number { n < 16 }
+    requires letter { 10 ≤ ten }
+    requires letters { ten ≤ 250 }
+    ensures { result ≡ hex_digit ten n }
+{
+    if n < 10 { b'0' + n } else { ten - 10 + n }
+}
+
 #[cfg(test)]
 mod tests {
-    use super::decimal;
+    use super::{decimal, hex_digit};
 
     #[test]
     fn numerals_and_others(rt: HostRuntime) {
@@ -36,5 +46,14 @@ mod tests {
         assert_eq!(rt; decimal("-7"), None);
         assert_eq!(rt; decimal("7 "), None);
         assert_eq!(rt; decimal("0x7"), None);
+    }
+
+    #[test]
+    fn digits_and_letters(rt: HostRuntime) {
+        assert_eq!(rt; hex_digit(0, b'a'), b'0');
+        assert_eq!(rt; hex_digit(9, b'a'), b'9');
+        assert_eq!(rt; hex_digit(10, b'a'), b'a');
+        assert_eq!(rt; hex_digit(15, b'a'), b'f');
+        assert_eq!(rt; hex_digit(15, b'A'), b'F');
     }
 }

@@ -68,6 +68,8 @@ fn tell_fault<W: Write>(fault: Fault, out: &mut W) -> io::Result<()> {
     writeln!(out, "{fault}")
 }
 
+// By hand: a derived `From` keeps the error that it came from, which `Usage` and `NoMemory` don't, and wants a text
+// for each variant, while a part of what is told here is bytes.
 impl From<Usage> for Failure {
     fn from(_e: Usage) -> Failure {
         Failure::Usage

@@ -2,13 +2,14 @@
 use crate::changes::write_changes;
 use crate::failure::Failure;
 use book::book::Book;
+use records::open::SECTION_BYTES;
 use reports::differences::differences;
 use std::alloc::Global;
 use std::io::Write;
 use stores::store::Store;
 
-// The most bytes that an object has.
-const OBJECT_BYTES: usize = 32_768;
+// The most bytes that an object has: it is read through the window that a section is read through.
+const OBJECT_BYTES: usize = SECTION_BYTES;
 
 pub fn accepted<S: Store, W: Write>(book: &Book<S>, out: &mut W) -> Result<(), Failure> {
     let count = book.revisions()?;

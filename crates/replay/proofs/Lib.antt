@@ -1,3 +1,4 @@
+mod Cases
 mod Cuts
 mod Hexes
 mod Stretched

@@ -5,7 +5,7 @@ use Rattle.format.specs.Tokens as format
 use Rattle.lexer.specs.declared.token.Found.{Found}
 use Rattle.lexer.specs.declared.token.Token.{Token}
 use Rattle.lexer.specs.declared.token.Token.TheVariants.{Unsigned, Signed, Real, Name, Text, Hex, Word, OpenArray, CloseArray, OpenDict, CloseDict, End}
-use Rattle.lexer.specs.Views.{kind_of, Moves, Placed, found_token}
+use Rattle.lexer.specs.Views.{kind_of, found_token}
 use Rattle.replay.specs.Readings.{next_token, TellsToken, TokensBetween, AllTold}
 use Rattle.replay.specs.Sorts.{sort_of}
 use Rattle.replay.specs.declared.answer.Value.{Value}
@@ -35,21 +35,6 @@ sortless OpenDict e = no_sort _ e
 sortless CloseDict e = no_sort _ e
 sortless End e = refl
 
--- what has a sort takes a byte
-pub sorted_moves : (t : Token) (s : Sort) (p q n : ℕ) → sort_of (kind_of t) ≡ Some s → Moves t p q n → p < q
-sorted_moves (Unsigned k) s p q n e h = h
-sorted_moves (Signed z) s p q n e h = h
-sorted_moves (Real w) s p q n e h = h
-sorted_moves (Name w) s p q n e h = h
-sorted_moves (Text w) s p q n e h = h
-sorted_moves (Hex w) s p q n e h = h
-sorted_moves (Word w) s p q n e h = h
-sorted_moves OpenArray s p q n e h = h
-sorted_moves CloseArray s p q n e h = h
-sorted_moves OpenDict s p q n e h = h
-sorted_moves CloseDict s p q n e h = h
-sorted_moves End s p q n e h = no_sort s (sym e)
-
 moved : (src : Bytes) (q r : ℕ) (vs : List Value) → q ≡ r → TokensBetween src 0 vs q → TokensBetween src 0 vs r
 moved src q r vs e h = rw (sym e) h
 
@@ -59,12 +44,3 @@ found_told src p vs ws f s told is sorted items =
     let tells : TellsToken (next_token src p) (values.Token s f.from f.to) =
     record { sort = s; sort_is = ap (λ t. sort_of t.kind) is ∙ sorted; value_is = rw is refl } in
     rw items (moved src _ _ _ (ap (λ t. t.to) is) (one_more src 0 p vs _ told tells))
-
--- each token leaves less
-pub found_less : (src : Bytes) (p : ℕ) (f : Found) (s : Sort) → sort_of (kind_of f.token) ≡ Some s → Placed src p f → length src - f.to < length src - p
-found_less src p f s sorted placed =
-    omega (arith, placed.starts, placed.inside, sorted_moves f.token s f.from f.to (length src) sorted placed.moves)
-
--- at the end all is told
-pub all_told : (src : Bytes) (p : ℕ) (vs : List Value) (f : Found) → TokensBetween src 0 vs p → next_token src p ≡ found_token src f → sort_of (kind_of f.token) ≡ None → AllTold src vs
-all_told src p vs f told is none = record { last = p; told = told; ended = ap (λ t. t.kind) is ∙ sortless f.token none }

@@ -1,10 +1,11 @@
 -- Bytes as text, two lower-case hex digits each.
-use Rattle.std.specs.Prelude.{◌≡◌, ℕ, ◌+◌, ◌/◌, ◌%◌, ◌<◌, cond, ◌⊎◌, List, [], ◌∷◌, length, nat_lt, slice_index}
+use Rattle.std.specs.Prelude.{◌≡◌, ℕ, ◌/◌, ◌%◌, ◌<◌, ◌⊎◌, List, [], ◌∷◌, length, slice_index}
 use Rattle.std.specs.Int.{IsInRange}
+use Rattle.numerals.specs.Numbers.{hex_digit}
 
--- the digit that writes a number below 16
+-- the digit that writes a number below 16, in lower case
 abbrev pub digit_of : ℕ → ℕ
-digit_of n = cond (nat_lt n 10) (48 + n) (87 + n)
+digit_of = hex_digit 97
 
 -- the two digits of each byte, in their order
 abbrev pub hex_of : List ℕ → List ℕ

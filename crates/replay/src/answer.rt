@@ -32,6 +32,7 @@ pub enum Setback {
     Trouble(Trouble),
 }
 
+// By hand, as clauses name what `?` makes of an error: a derived `From` has no contract.
 impl From<Fault> for Setback {
     ghost from_gives = { λ f s. s ≡ setback.Fault f };
 

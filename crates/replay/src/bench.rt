@@ -27,14 +27,9 @@ impl Bench {
     pub fn answer(&mut self, line: &[u8]) -> Answer
         ensures { Answered self.old.pile line.now result self.new.pile }
     {
-        let text = match str::from_utf8(line) {
-            Ok(text) => text,
-            Err(_) => return Err(Setback::Trouble(Trouble::NoText)),
-        };
-        match Command::parse(self.heap, text) {
-            Ok(command) => self.perform(command),
-            Err(trouble) => Err(Setback::Trouble(trouble)),
-        }
+        let text = str::from_utf8(line).map_err(|_| Trouble::NoText)?;
+        let command = Command::parse(self.heap, text)?;
+        self.perform(command)
     }
 
     // Every command is done here.

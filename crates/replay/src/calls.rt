@@ -44,9 +44,7 @@ fn byte<S: Store>(heap: Global, store: &S, place: usize) -> Answer
         Some(b) => Value::Number(usize::from(b)),
         None => Value::Nothing,
     };
-    let mut values = Vec::new(heap);
-    values.push(value)?;
-    Ok(values)
+    Ok(vec![in heap; value]?)
 }
 
 // The length, the space, and the bytes in hex.
@@ -54,11 +52,9 @@ fn bytes<S: Store>(heap: Global, store: &S) -> Answer
     ensures { BytesTold (S.Store.meaning store.now) result }
 {
     let text = digits(heap, store)?;
-    let mut values = Vec::new(heap);
-    values.push(Value::Number(store.len()))?;
-    values.push(Value::Number(store.space()))?;
-    values.push(Value::Hex(text))?;
-    Ok(values)
+    let length = Value::Number(store.len());
+    let space = Value::Number(store.space());
+    Ok(vec![in heap; length, space, Value::Hex(text)]?)
 }
 
 fn digits<S: Store>(heap: Global, store: &S) -> Result<Vec<u8>, AllocError>
@@ -67,11 +63,9 @@ fn digits<S: Store>(heap: Global, store: &S) -> Result<Vec<u8>, AllocError>
     let length = store.len();
     let mut text = Vec::with_capacity(heap, length.saturating_mul(2))?;
     let mut window = [0; WINDOW];
-    let mut place = 0;
-    while place < length {
+    for place in (0..length).step_by(WINDOW) {
         let count = store.read(place, &mut window);
-        hex::encode(&window[0..count], &mut text)?;
-        place += count;
+        hex::encode(&window[..count], &mut text)?;
     }
     Ok(text)
 }

@@ -4,14 +4,11 @@ ghost use Rattle.replay.specs.Hex.{digit_of, hex_of, HexDigit, HexText};
 ghost use Rattle.replay.specs.declared.trouble.Trouble.TheVariants.{BadBytes, NoMemory};
 
 use crate::trouble::Trouble;
+use numerals::hex_digit;
 use std::alloc::{AllocError, Global};
 
-fn digit(n: u8) -> u8
-    requires { n < 16 }
-    ensures { result ≡ digit_of n }
-{
-    if n < 10 { b'0' + n } else { b'a' - 10 + n }
-}
+// The hex digit that stands for ten.
+const TEN: u8 = b'a';
 
 // The number that a digit writes.
 fn nibble(c: u8) -> Option<u8>
@@ -38,8 +35,9 @@ pub fn encode(bytes: &[u8], text: &mut Vec<u8>) -> Result<(), AllocError>
     ensures { OnOk result (text.new.items ≡ text.old.items ++ hex_of bytes.now) }
 {
     for b in bytes {
-        text.push(digit(*b / 16))?;
-        text.push(digit(*b % 16))?;
+        let high = hex_digit(*b / 16, TEN);
+        let low = hex_digit(*b % 16, TEN);
+        text.extend_from_slice(&[high, low])?;
     }
     Ok(())
 }
@@ -48,19 +46,14 @@ pub fn encode(bytes: &[u8], text: &mut Vec<u8>) -> Result<(), AllocError>
 pub fn decode(heap: Global, text: &[u8]) -> Result<Vec<u8>, Trouble>
     ensures { MatchResult result (λ v. HexText text.now × (hex_of v.items ≡ text.now)) (λ e. (e ≡ NoMemory) ⊎ ((e ≡ BadBytes) × (HexText text.now → ⊥))) }
 {
-    if text.len() % 2 != 0 {
+    let (pairs, rest) = text.as_chunks::<2>();
+    if !rest.is_empty() {
         return Err(Trouble::BadBytes);
     }
-    let Ok(mut bytes) = Vec::with_capacity(heap, text.len() / 2) else {
-        return Err(Trouble::NoMemory);
-    };
-    for i in 0..text.len() / 2 {
-        let Some(b) = byte(text[2 * i], text[2 * i + 1]) else {
-            return Err(Trouble::BadBytes);
-        };
-        if bytes.push(b).is_err() {
-            return Err(Trouble::NoMemory);
-        }
+    let mut bytes = Vec::with_capacity(heap, pairs.len())?;
+    for [high, low] in pairs {
+        let b = byte(*high, *low).ok_or(Trouble::BadBytes)?;
+        bytes.push(b)?;
     }
     Ok(bytes)
 }

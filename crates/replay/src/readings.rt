@@ -11,9 +11,7 @@ use objects::body::check_body;
 use objects::frame::read_frame;
 use objects::object::object_at;
 use std::alloc::Global;
-
-// The most that places may count from: a file has no more bytes.
-const MOST_PLACE: usize = 9_999_999;
+use stores::store::LONGEST;
 
 pub fn answer(heap: Global, reading: &Reading) -> Answer
     ensures { ReadAs reading.now result }
@@ -33,33 +31,22 @@ fn tokens(heap: Global, src: &[u8]) -> Answer
     let mut values = Vec::new(heap);
     let mut place = 0;
     loop {
-        let found = match Lexer::at(src, place).token() {
-            Ok(found) => found,
-            Err(fault) => return Err(Setback::Fault(fault)),
+        let found = Lexer::at(src, place).token()?;
+        let Some(sort) = Sort::of(found.token) else {
+            return Ok(values);
         };
-        let sort = match Sort::of(found.token) {
-            Some(sort) => sort,
-            None => return Ok(values),
-        };
-        let value = Value::Token {
+        values.push(Value::Token {
             sort,
             from: found.from,
             to: found.to,
-        };
-        if values.push(value).is_err() {
-            return Err(Setback::Trouble(Trouble::NoMemory));
-        }
+        })?;
         place = found.to;
     }
 }
 
 // Numbers as the values of an answer.
 fn numbers(heap: Global, all: &[usize]) -> Answer {
-    let mut values = Vec::new(heap);
-    for n in all {
-        values.push(Value::Number(*n))?;
-    }
-    Ok(values)
+    Ok(all.iter().map(|n| Value::Number(*n)).collect(heap)?)
 }
 
 // The place behind the object at the start.
@@ -78,13 +65,15 @@ fn body(heap: Global, src: &[u8]) -> Answer
 
 // The object in the file that starts with the bytes, with places counted from `place`.
 fn frame(heap: Global, place: usize, src: &[u8]) -> Answer {
-    if place > MOST_PLACE {
+    // A file has no more bytes.
+    if place > LONGEST {
         return Err(Setback::Trouble(Trouble::BadPlace));
     }
     let read = read_frame(src).map_err(|fault| Fault {
         place: place.saturating_add(fault.place),
         ..fault
     })?;
+    // `as`: there is no `From` from u32 to usize.
     numbers(
         heap,
         &[

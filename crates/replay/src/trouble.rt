@@ -1,4 +1,8 @@
 // Why the bench cannot do a line.
+ghost use Rattle.std.specs.Prelude.{◌≡◌};
+ghost use Rattle.replay.specs.declared.trouble.Trouble.TheVariants.{NoMemory};
+
+use std::alloc::{AllocError, AllocFailed};
 use std::fmt;
 
 #[derive(Clone, Copy, PartialEq, Eq, Debug)]
@@ -31,6 +35,22 @@ impl Trouble {
             Trouble::OverlaysFull => "there are two overlays already",
             Trouble::NoMemory => "there is too little memory",
         }
+    }
+}
+
+impl From<AllocError> for Trouble {
+    ghost from_gives = { λ _ t. t ≡ NoMemory };
+
+    fn from(_e: AllocError) -> Trouble {
+        Trouble::NoMemory
+    }
+}
+
+impl<T: Drop> From<AllocFailed<T>> for Trouble {
+    ghost from_gives = { λ _ t. t ≡ NoMemory };
+
+    fn from(_e: AllocFailed<T>) -> Trouble {
+        Trouble::NoMemory
     }
 }
 

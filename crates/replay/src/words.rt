@@ -27,17 +27,12 @@ impl<'a> Words<'a> {
     fn take(&mut self) -> Option<&'a str>
         ensures { Taken (words_left self.old.left) result (words_left self.new.left) }
     {
-        let text = self.left?;
-        match text.split_once(' ') {
-            Some((word, rest)) => {
-                self.left = Some(rest);
-                Some(word)
-            }
-            None => {
-                self.left = None;
-                Some(text)
-            }
-        }
+        let text = self.left.take()?;
+        let Some((word, rest)) = text.split_once(' ') else {
+            return Some(text);
+        };
+        self.left = Some(rest);
+        Some(word)
     }
 
     pub fn word(&mut self) -> Result<&'a str, Trouble>
@@ -56,9 +51,7 @@ impl<'a> Words<'a> {
     pub fn bytes(&mut self, heap: Global) -> Result<Vec<u8>, Trouble>
         ensures { MatchResult result (λ v. Took (BytesIn v) (words_left self.old.left) (words_left self.new.left)) (λ e. (e ≡ NoMemory) ⊎ Amiss HexText BadBytes (words_left self.old.left) e) }
     {
-        let Some(word) = self.take() else {
-            return Err(Trouble::WordMissing);
-        };
+        let word = self.word()?;
         hex::decode(heap, word.as_bytes())
     }
 
@@ -66,9 +59,9 @@ impl<'a> Words<'a> {
     pub fn end(&mut self) -> Result<(), Trouble>
         ensures { MatchResult result (λ _. words_left self.old.left ≡ []) (λ e. (e ≡ WordSurplus) × (words_left self.old.left ≢ [])) }
     {
-        match self.take() {
-            Some(_) => Err(Trouble::WordSurplus),
-            None => Ok(()),
+        if self.take().is_some() {
+            return Err(Trouble::WordSurplus);
         }
+        Ok(())
     }
 }

@@ -1,5 +1,6 @@
 -- The bytes around a place, and how a byte is shown to a person.
-use Rattle.std.specs.Prelude.{ℕ, ◌+◌, ◌-◌, ◌/◌, ◌%◌, min, Bool, cond, not, ◌&&◌, List, [], ◌∷◌, length, take, drop, ◌==◌, nat_le, nat_lt}
+use Rattle.std.specs.Prelude.{ℕ, ◌-◌, ◌/◌, ◌%◌, min, Bool, cond, not, ◌&&◌, List, [], ◌∷◌, length, take, drop, ◌==◌, nat_le, nat_lt}
+use Rattle.reports.specs.Numbers.{hex_digit}
 
 -- how many bytes are shown on either side
 abbrev pub reach : ℕ
@@ -19,9 +20,9 @@ behind_place bytes place = take reach (drop (place_in bytes place) bytes)
 abbrev pub is_plain : ℕ → Bool
 is_plain b = nat_le 32 b && (nat_lt b 127 && not (b == 92))
 
--- the digit of a number below 16
+-- the digit of a number below 16, in capitals
 abbrev pub digit_of : ℕ → ℕ
-digit_of n = cond (nat_lt n 10) (48 + n) (55 + n)
+digit_of = hex_digit 65
 
 -- a byte as a person reads it: as it is, or `\x` and two hex digits
 abbrev pub spelled : ℕ → List ℕ

@@ -1,12 +1,16 @@
 // The bytes around a place, and bytes as a person reads them.
-ghost use Rattle.std.specs.Prelude.{◌≡◌, ◌<◌, ◌++◌, OnOk};
+ghost use Rattle.std.specs.Prelude.{◌≡◌, ◌++◌, OnOk};
 ghost use Rattle.std.specs.List.{flat_map};
-ghost use Rattle.reports.specs.Excerpts.{before_place, behind_place, digit_of, is_plain, spelled};
+ghost use Rattle.reports.specs.Excerpts.{before_place, behind_place, is_plain, spelled};
 
+use numerals::hex_digit;
 use std::alloc::{AllocError, Global};
 
 // How many bytes are shown on either side of a place.
 const REACH: usize = 24;
+
+// The hex digit that stands for ten.
+const TEN: u8 = b'A';
 
 // The bytes before a place, and those from it on.
 #[derive(Clone, Copy)]
@@ -34,13 +38,6 @@ fn is_plain(byte: u8) -> bool
     matches!(byte, b' '..=b'~') && byte != b'\\'
 }
 
-fn digit(n: u8) -> u8
-    requires { n < 16 }
-    ensures { result ≡ digit_of n }
-{
-    if n < 10 { b'0' + n } else { b'A' - 10 + n }
-}
-
 // Adds the bytes to a text: printable ones as they are, others as `\x` and two hex digits.
 pub fn spell(text: &mut Vec<u8>, bytes: &[u8]) -> Result<(), AllocError>
     ensures { OnOk result (text.new.items ≡ text.old.items ++ flat_map spelled bytes.now) }
@@ -58,5 +55,7 @@ fn spell_one(text: &mut Vec<u8>, byte: u8) -> Result<(), AllocError>
         text.push(byte)?;
         return Ok(());
     }
-    text.extend_from_slice(&[b'\\', b'x', digit(byte / 16), digit(byte % 16)])
+    let high = hex_digit(byte / 16, TEN);
+    let low = hex_digit(byte % 16, TEN);
+    text.extend_from_slice(&[b'\\', b'x', high, low])
 }

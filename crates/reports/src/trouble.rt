@@ -11,6 +11,7 @@ pub enum Trouble {
     Refused(Fault),
 }
 
+// By hand, as clauses name what `?` makes of an error: a derived `From` has no contract.
 impl From<Fault> for Trouble {
     ghost from_gives = { λ f r. r ≡ Refused f };
 

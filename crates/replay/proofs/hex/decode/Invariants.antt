@@ -2,5 +2,7 @@ use Rattle.std.proofs.Common.{◌≡◌, ℕ, ◌*◌, ◌<◌, get_or, take, ve
 use Rattle.replay.specs.Hex.{hex_of, HexDigit}
 use Rattle.replay.proofs.hex.decode.Given as goal
 
-abbrev pub invariant-loop-i : goal.invariant-loop-i
-invariant-loop-i l = (hex_of (vec_items l.bytes) ≡ take (2 * l.i) l.text) × ((k : ℕ) → k < 2 * l.i → HexDigit (get_or l.text k 0))
+abbrev pub invariant-loop-high : goal.invariant-loop-high
+invariant-loop-high l =
+    (hex_of (vec_items l.bytes) ≡ take (2 * l.high-index) l.text)
+    × ((k : ℕ) → k < 2 * l.high-index → HexDigit (get_or l.text k 0))

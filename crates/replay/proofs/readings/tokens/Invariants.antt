@@ -2,8 +2,8 @@ use Rattle.std.proofs.Common.{◌-◌, ◌≤◌, length, vec_items}
 use Rattle.replay.specs.Readings.{TokensBetween}
 use Rattle.replay.proofs.readings.tokens.Given as goal
 
-abbrev pub invariant-loop-found : goal.invariant-loop-found
-invariant-loop-found l = (l.place ≤ length l.src) × TokensBetween l.src 0 (vec_items l.values) l.place
+abbrev pub invariant-loop-values : goal.invariant-loop-values
+invariant-loop-values l = (l.place ≤ length l.src) × TokensBetween l.src 0 (vec_items l.values) l.place
 
-abbrev pub decreases-loop-found : goal.decreases-loop-found
-decreases-loop-found l = length l.src - l.place
+abbrev pub decreases-loop-values : goal.decreases-loop-values
+decreases-loop-values l = length l.src - l.place

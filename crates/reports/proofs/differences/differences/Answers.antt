@@ -1,33 +1,21 @@
-use Rattle.std.proofs.Common.{◌≡◌, ◌+◌, ◌-◌, ◌++◌, Ok, Err, vec_items, vec_len, vec_capacity, sym, ap, ◌∙◌, subst, append-nil, arith}
+use Rattle.std.proofs.Common.{◌≡◌, ◌+◌, ◌-◌, ◌++◌, Ok, vec_items, vec_len, vec_capacity, sym, ap, ◌∙◌, append-nil, arith}
 use Rattle.chains.proofs.Steps.{answered, never_answer}
-use Rattle.std.proofs.lemmas.Result.{err_from_is_err_and}
 use Rattle.book.specs.Books.{moment_of}
-use Rattle.reports.specs.declared.trouble.Trouble.TheVariants.{Refused}
-use Rattle.reports.specs.Differences.{Differs, pairs_of}
-use Rattle.reports.proofs.Between.{list_shows, refused_first, refused_second, behind, differ_shows, all_shown, behind_none, none_if, none_listed, one_listed}
+use Rattle.reports.specs.Differences.{pairs_of}
+use Rattle.reports.proofs.Between.{handed, list_shows, refused_first, refused_second, behind, differ_shows, all_shown, behind_none, none_if, none_listed, one_listed}
 use Rattle.reports.proofs.differences.differences.Goals.{in-Some, in_default}
 use Rattle.reports.proofs.differences.differences.Goals as goal
 
 pub returns-in_err-earlier : goal.returns-in_err-earlier
 returns-in_err-earlier g c =
-    let p = err_from_is_err_and c.from_residual.result c.from_residual.ensures.1 in
-    let z : c.from_residual.result ≡ Err (Refused c.in_err-earlier.field-0.0) = cc in
     let m = moment_of g.S.Store.meaning c.args.book.now in
-    subst (Differs m c.args.j c.args.k) (sym z) (refused_first m c.args.j c.args.k _ (sym c.in_err-earlier.ensures))
+    rw (handed c.from_residual.result _ c.from_residual.ensures.1) (refused_first m c.args.j c.args.k _ (sym c.in_err-earlier.ensures))
 
 pub returns-in_err-later : goal.returns-in_err-later
 returns-in_err-later g c =
-    let p = err_from_is_err_and c.from_residual-in_err-later.result c.from_residual-in_err-later.ensures.1 in
-    let z : c.from_residual-in_err-later.result ≡ Err (Refused c.in_err-later.field-0.0) = cc in
     let m = moment_of g.S.Store.meaning c.args.book.now in
     let a = list_shows m c.args.j _ (sym c.in_ok-earlier.ensures) in
-    subst (Differs m c.args.j c.args.k) (sym z) (refused_second m c.args.j c.args.k _ _ a (sym c.in_err-later.ensures))
-
-pub loop-n-init : goal.loop-n-init
-loop-n-init g c =
-    let m = moment_of g.S.Store.meaning c.args.book.now in
-    let e = c.in_ok-all.ensures in
-    (omega (arith, e.len), e.capacity, ap (λ t. pairs_of t ++ behind m c.args.j c.args.k c.max-count.result 0) e.items)
+    rw (handed c.from_residual-in_err-later.result _ c.from_residual-in_err-later.ensures.1) (refused_second m c.args.j c.args.k _ _ a (sym c.in_err-later.ensures))
 
 pub returns-in_err-difference : goal.returns-in_err-difference
 returns-in_err-difference g c =
