@@ -9,8 +9,8 @@ loop-at-init c = (omega arith, omega arith, run_none is_regular _ _)
 pub loop-at-preserved : goal.loop-at-preserved
 loop-at-preserved c = (omega arith, omega arith, run_more is_regular _ _ _ c.loop-at.invariant.0 c.loop-at-test.true (sym c.if-is_regular.ensures) c.loop-at.invariant.2)
 
-pub returns-else-is_regular : goal.returns-else-is_regular
-returns-else-is_regular c = record { is = run_stops is_regular _ _ _ c.loop-at-test.true (sym c.if-is_regular.ensures) c.loop-at.invariant.2; low = omega arith; high = omega arith }
+pub returns-else-is_regular-clause-is : goal.returns-else-is_regular-clause-is
+returns-else-is_regular-clause-is c = run_stops is_regular _ _ _ c.loop-at-test.true (sym c.if-is_regular.ensures) c.loop-at.invariant.2
 
-pub returns-after-loop-at : goal.returns-after-loop-at
-returns-after-loop-at c = record { is = run_ends is_regular _ _ _ c.loop-at-test.false c.loop-at.invariant.2; low = omega arith; high = omega arith }
+pub returns-after-loop-at-clause-is : goal.returns-after-loop-at-clause-is
+returns-after-loop-at-clause-is c = run_ends is_regular _ _ _ c.loop-at-test.false c.loop-at.invariant.2

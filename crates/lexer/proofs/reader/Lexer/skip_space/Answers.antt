@@ -14,8 +14,8 @@ loop-at-preserved c = (
   ],
 )
 
-pub returns-after-loop-at : goal.returns-after-loop-at
-returns-after-loop-at c = record { is = space_ends _ _ _ c.loop-at-test.false c.loop-at.invariant.2; low = omega arith; high = omega arith }
+pub returns-after-loop-at-clause-is : goal.returns-after-loop-at-clause-is
+returns-after-loop-at-clause-is c = space_ends _ _ _ c.loop-at-test.false c.loop-at.invariant.2
 
-pub returns-then-b-ne37 : goal.returns-then-b-ne37
-returns-then-b-ne37 c = record { is = space_stops _ _ _ c.if-comment.false c.loop-at-test.true (sym c.if-not-is_white.ensures) c.if-b-ne37.true c.loop-at.invariant.2; low = omega arith; high = omega arith }
+pub returns-then-b-ne37-clause-is : goal.returns-then-b-ne37-clause-is
+returns-then-b-ne37-clause-is c = space_stops _ _ _ c.if-comment.false c.loop-at-test.true (sym c.if-not-is_white.ensures) c.if-b-ne37.true c.loop-at.invariant.2
