@@ -98,20 +98,6 @@ module _ (src : Bytes) (n g p s : ℕ) (at : skip false p (drop p src) ≡ (s, d
     unfolding framed_body
     framed_whole r h = let b = bare_ok (body_at s (drop s src)) q (drop q src) e in let c = b.1 in let d = sym h in rw (at, c, d) refl
 
-module _ (src : Bytes) (n p : ℕ) where
-  -- no generation
-  pub head_bad : (f : Fault) → bad f ≡ the_int (token_in src p) → bad f ≡ head_of n p (drop p src)
-  head_bad f e = let d = sym e in rw d refl
-
-  module _ (g q : ℕ) (e : ok g q (drop q src) ≡ the_int (token_in src p)) where
-    -- no `obj`
-    pub obj_bad : (f : Fault) → bad f ≡ the_word (codes "obj") (token_in src q) → bad f ≡ head_of n p (drop p src)
-    obj_bad f h = let d = sym e in let c = sym h in rw (d, c) refl
-
-    -- what comes behind `obj`
-    pub head_there : (r : ℕ) (z : Got Framed) → ok tt r (drop r src) ≡ the_word (codes "obj") (token_in src q) → z ≡ framed_body n g (skip false r (drop r src)) → z ≡ head_of n p (drop p src)
-    head_there r z h i = let d = sym e in let c = sym h in rw (d, c) i
-
 -- the number does not stand right there
 pub frame_loose : (src : Bytes) (s : ℕ) → skip false 0 (drop 0 src) ≡ (s, drop s src) → (s ≡ 0 → ⊥) → bad (object_fault BadFrame 0) ≡ frame 0 src
 unfolding frame frame_number

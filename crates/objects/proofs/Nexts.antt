@@ -3,7 +3,7 @@ use Rattle.std.proofs.Common.{◌≡◌, ℕ, false, drop, Some, None, Ok, sym, 
 use Rattle.faults.specs.declared.fault.Fault.{Fault}
 use Rattle.format.specs.Bytes.{Bytes, ok, bad}
 use Rattle.format.specs.Space.{skip}
-use Rattle.format.specs.Objects.{Obj, closes, key, fails}
+use Rattle.format.specs.Objects.{Obj, closes, key}
 use Rattle.objects.specs.declared.ahead.Ahead.{Ahead}
 use Rattle.objects.specs.declared.ahead.Ahead.TheVariants as aheads
 use Rattle.objects.specs.declared.shape.Shape.{Shape}
@@ -16,9 +16,6 @@ use Rattle.objects.proofs.Turns.{shaped_ok, shaped_bad}
 module _ (src : Bytes) (p : ℕ) where
   pub entry_closes : next_in src p ≡ closes → None ≡ entry_in src p
   entry_closes e = sym (ap (entry_from (read_by false 31) (token_in src p)) e)
-
-  pub entry_refuses : (f : Fault) → next_in src p ≡ fails f → None ≡ entry_in src p
-  entry_refuses f e = sym (ap (entry_from (read_by false 31) (token_in src p)) e)
 
   module _ (k : Bytes) (e : next_in src p ≡ key k) (q s v : ℕ) (t : EndsAt src p q) (f : (token_in src p).from ≡ s) (a : skip false q (drop q src) ≡ (v, drop v src)) where
     at : skip false (token_in src p).to (token_in src p).rest ≡ (v, drop v src)

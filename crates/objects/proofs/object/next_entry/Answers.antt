@@ -1,7 +1,7 @@
 use Rattle.std.proofs.Common.{arith}
 use Rattle.objects.proofs.Cases.{ok_some, ok_none}
 use Rattle.objects.proofs.Ends.{entry_past}
-use Rattle.objects.proofs.Nexts.{entry_closes, entry_refuses, entry_bad, entry_there}
+use Rattle.objects.proofs.Nexts.{entry_bad, entry_there}
 use Rattle.objects.proofs.object.next_entry.Goals as goal
 
 pub returns-in_err-at : goal.returns-in_err-at
@@ -10,20 +10,6 @@ returns-in_err-at c =
     let past = rw e.1 at c.lexer_at.ensures in
     let l = past.0 in
     rw c.from_residual.ensures (entry_past _ _ (omega arith))
-
-pub returns-in_err-key : goal.returns-in_err-key
-returns-in_err-key c =
-    let here = rw (ok_some _ _ c.in_ok-at.ensures.value) at c.lexer_at.ensures in
-    let e = ok_none _ c.in_err-key.ensures.value in
-    let told = rw (here.0, here.1, e.1) at c.next_in.ensures in
-    rw c.from_residual-in_err-key.ensures (entry_refuses _ _ _ told)
-
-pub returns-in-Closes : goal.returns-in-Closes
-returns-in-Closes c =
-    let here = rw (ok_some _ _ c.in_ok-at.ensures.value) at c.lexer_at.ensures in
-    let e = ok_some _ _ c.in_ok-key.ensures.value in
-    let told = rw (here.0, here.1, e, c.in-Closes.is) at c.next_in.ensures in
-    entry_closes _ _ told.0
 
 pub returns-in_err-value-in-Key : goal.returns-in_err-value-in-Key
 returns-in_err-value-in-Key c =

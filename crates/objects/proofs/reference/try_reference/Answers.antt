@@ -1,4 +1,4 @@
-use Rattle.std.proofs.Common.{refl, sym, arith}
+use Rattle.std.proofs.Common.{sym, arith}
 use Rattle.objects.proofs.Cases.{ok_some, ok_none}
 use Rattle.objects.proofs.References.{took_int, took_no_int, took_none, took_word, took_no_word, took_nothing, generation_fits, generation_past, ref_no_int, ref_no_number, ref_no_generation, ref_no_mark, tries_found, tries_none}
 use Rattle.objects.proofs.reference.try_reference.Goals as goal
@@ -6,9 +6,8 @@ use Rattle.objects.proofs.reference.try_reference.Goals as goal
 pub returns-in_err-second-clause-is : goal.returns-in_err-second-clause-is
 returns-in_err-second-clause-is c = tries_none _ _ _ _ _ c.from_residual.ensures (ref_no_int _ _ _ (took_none _ _ c.take.new.place c.in_err-second.ensures)) c.drop-trial.ensures
 
-pub returns-in_default : goal.returns-in_default
-returns-in_default c =
-    record { is = (ref_no_int _ _ _ (took_no_int _ _ _ _ c.in_ok-second.ensures c.in_default.not-Unsigned), c.drop-trial-in_default.ensures); src = refl }
+pub returns-in_default-clause-is : goal.returns-in_default-clause-is
+returns-in_default-clause-is c = (ref_no_int _ _ _ (took_no_int _ _ _ _ c.in_ok-second.ensures c.in_default.not-Unsigned), c.drop-trial-in_default.ensures)
 
 pub returns-then-number-lt1-clause-is : goal.returns-then-number-lt1-clause-is
 returns-then-number-lt1-clause-is c =
