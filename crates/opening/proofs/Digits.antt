@@ -23,13 +23,6 @@ grows n k x h e = let d = digit_range x e in let p = pow-suc 10 k in omega arith
 pub next_power : (n x v m k : ℕ) → v ≡ n * 10 + (x - 48) → k ≡ suc m → n < 10 ^ m → is_digit x ≡ true → v < 10 ^ k
 next_power n x v m k e f h d = rw (e, f) (grows n m x h d)
 
-pub at_power : (n m k : ℕ) → m ≡ k → n < 10 ^ m → n < 10 ^ k
-at_power n m k e h = rw e at h
-
--- at most nine digits spell less than a billion
-pub few : (n k : ℕ) → n < 10 ^ k → k ≤ 9 → n < 1000000000
-few n k h l = let p : 10 ^ k ≤ 10 ^ 9 = pow-le-pow_right {n = 10} (lit< tt) l in omega arith
-
 -- at most ten digits spell less than ten to the tenth
 pub ten_at_most : (n k : ℕ) → n < 10 ^ k → k ≤ 10 → n < 10 ^ 10
 ten_at_most n k h l = let p : 10 ^ k ≤ 10 ^ 10 = pow-le-pow_right {n = 10} (lit< tt) l in omega arith

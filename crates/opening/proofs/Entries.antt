@@ -1,10 +1,10 @@
 -- The mark and the end of an entry, at a place of the window.
 use Rattle.std.proofs.Common.{◌≡◌, ℕ, suc, ◌+◌, ◌<◌, ◌≤◌, true, false, ◌||◌, eqb, [], ◌∷◌, length, get_or, drop, ap, ◌∙◌, arith}
-use Rattle.std.proofs.lemmas.List.{at_drop_all}
+use Rattle.std.proofs.lemmas.List.{at_drop_all, at_drop_more}
 use Rattle.std.proofs.lemmas.Bool.{eq-eqb, ne_eqb}
 use Rattle.format.specs.Bytes.{Bytes}
 use Rattle.format.specs.Lines.{took, short, misfit, use_mark, slot_end, slot_ends}
-use Rattle.opening.proofs.Places.{at_place, one_on, two_on}
+use Rattle.opening.proofs.Places.{one_on, two_on}
 
 module _ (p x : ℕ) (xs : Bytes) where
   n_here : eqb x 110 ≡ true → use_mark p (x ∷ xs) ≡ took true (suc p) xs
@@ -41,13 +41,13 @@ module _ (src : Bytes) (p base : ℕ) where
   mark_short h = at_drop_all (use_mark (base + p)) src p h
 
   pub mark_n : p < length src → get_or src p 0 ≡ 110 → use_mark (base + p) (drop p src) ≡ took true (base + (p + 1)) (drop (p + 1) src)
-  mark_n h e = at_place (use_mark (base + p)) src p h ∙ n_here _ _ _ (eq-eqb _ _ e) ∙ one_on (λ q. took true q (drop (p + 1) src)) base p
+  mark_n h e = at_drop_more (use_mark (base + p)) src p 0 h ∙ n_here _ _ _ (eq-eqb _ _ e) ∙ one_on (λ q. took true q (drop (p + 1) src)) base p
 
   pub mark_f : p < length src → (get_or src p 0 ≡ 110 → ⊥) → get_or src p 0 ≡ 102 → use_mark (base + p) (drop p src) ≡ took false (base + (p + 1)) (drop (p + 1) src)
-  mark_f h d e = at_place (use_mark (base + p)) src p h ∙ f_here _ _ _ (ne_eqb _ _ d) (eq-eqb _ _ e) ∙ one_on (λ q. took false q (drop (p + 1) src)) base p
+  mark_f h d e = at_drop_more (use_mark (base + p)) src p 0 h ∙ f_here _ _ _ (ne_eqb _ _ d) (eq-eqb _ _ e) ∙ one_on (λ q. took false q (drop (p + 1) src)) base p
 
   pub mark_misfit : p < length src → (get_or src p 0 ≡ 110 → ⊥) → (get_or src p 0 ≡ 102 → ⊥) → use_mark (base + p) (drop p src) ≡ misfit
-  mark_misfit h d e = at_place (use_mark (base + p)) src p h ∙ other_here _ _ _ (ne_eqb _ _ d) (ne_eqb _ _ e)
+  mark_misfit h d e = at_drop_more (use_mark (base + p)) src p 0 h ∙ other_here _ _ _ (ne_eqb _ _ d) (ne_eqb _ _ e)
 
   pub end_short : length src ≤ p → slot_end (base + p) (drop p src) ≡ short
   unfolding slot_end
@@ -57,7 +57,7 @@ module _ (src : Bytes) (p base : ℕ) where
   one_left h =
       let i : p < length src = omega arith in
       let j : length src ≤ p + 1 = omega arith in
-      at_place (slot_end (base + p)) src p i ∙ at_drop_all (λ r. slot_end (base + p) (get_or src p 0 ∷ r)) src (p + 1) j
+      at_drop_more (slot_end (base + p)) src p 0 i ∙ at_drop_all (λ r. slot_end (base + p) (get_or src p 0 ∷ r)) src (p + 1) j
 
   pub end_one_short : p + 1 ≡ length src → (eqb (get_or src p 0) 32 || eqb (get_or src p 0) 13) ≡ true → slot_end (base + p) (drop p src) ≡ short
   end_one_short h e = one_left h ∙ last_short _ _ [] e
@@ -69,8 +69,8 @@ module _ (src : Bytes) (p base : ℕ) where
   two_left h =
       let i : p < length src = omega arith in
       let q : p + 1 + 1 ≡ p + 2 = omega arith in
-      at_place (slot_end (base + p)) src p i
-      ∙ at_place (λ r. slot_end (base + p) (get_or src p 0 ∷ r)) src (p + 1) h
+      at_drop_more (slot_end (base + p)) src p 0 i
+      ∙ at_drop_more (λ r. slot_end (base + p) (get_or src p 0 ∷ r)) src (p + 1) 0 h
       ∙ ap (λ k. slot_end (base + p) (get_or src p 0 ∷ get_or src (p + 1) 0 ∷ drop k src)) q
 
   pub end_two : p + 1 < length src → slot_ends (get_or src p 0) (get_or src (p + 1) 0) ≡ true → slot_end (base + p) (drop p src) ≡ took tt (base + (p + 2)) (drop (p + 2) src)

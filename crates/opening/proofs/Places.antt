@@ -1,10 +1,6 @@
 -- What stands at a place of the window, as the definitions read it.
-use Rattle.std.proofs.Common.{◌≡◌, ℕ, suc, ◌+◌, ◌-◌, ◌<◌, List, ◌∷◌, length, get_or, take, drop, ap, ◌∙◌, arith}
-use Rattle.std.proofs.lemmas.List.{at_drop_more, drop-drop, length-drop, take_all}
-
--- a byte stands there, and the others behind it
-pub at_place : {Y : Type 0} (F : List ℕ → Y) (src : List ℕ) (p : ℕ) → p < length src → F (drop p src) ≡ F (get_or src p 0 ∷ drop (p + 1) src)
-at_place F src p h = at_drop_more F src p 0 h
+use Rattle.std.proofs.Common.{◌≡◌, ℕ, suc, ◌+◌, ◌-◌, List, length, take, drop, ap, ◌∙◌, arith}
+use Rattle.std.proofs.lemmas.List.{drop-drop, length-drop, take_all}
 
 -- one place on
 pub one_on : {Y : Type 0} (F : ℕ → Y) (base p : ℕ) → F (suc (base + p)) ≡ F (base + (p + 1))

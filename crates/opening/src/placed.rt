@@ -1,8 +1,9 @@
 // The faults of a line, and a section's tail.
-ghost use Rattle.std.specs.Prelude.{◌≡◌, ◌+◌, ◌≤◌, length, drop};
+ghost use Rattle.std.specs.Prelude.{◌≡◌, ◌≤◌, length};
 ghost use Rattle.format.specs.Lines.{placed};
 ghost use Rattle.format.specs.Sections.{tail};
 ghost use Rattle.opening.specs.Answers.{line_fault, piece_here, answered, passed_to, EndsWithin};
+ghost use Rattle.opening.specs.Places.{spot, rest};
 
 use crate::lines::{exact_line, number_line};
 use crate::part::Lack;
@@ -42,7 +43,7 @@ impl<'a> View<'a> {
     // The answer of a line or an entry that starts here, with its fault: where its bytes end, at the end of the view; where they do not fit, at its
     // first byte.
     pub fn placed<T>(self, part: Result<T, Lack>) -> Result<T, Fault>
-        ensures { result ≡ answered (placed (self.entry.base + self.entry.at.place) (drop self.entry.at.place self.entry.at.src.now) (piece_here part)) }
+        ensures { result ≡ answered (placed (spot self.entry) (rest self.entry) (piece_here part)) }
     {
         // no `map_err`: what its closure answered was left unopened in the proof, and the fault's equation did not close
         match part {
@@ -53,7 +54,7 @@ impl<'a> View<'a> {
 
     // A tail that gives the offset `offset`: `startxref`, the digits, `%%EOF`, each a line.
     pub fn tail(self, offset: u64) -> Result<usize, Fault>
-        ensures is { tail offset (self.entry.base + self.entry.at.place) (drop self.entry.at.place self.entry.at.src.now) ≡ passed_to self.entry.base self.entry.at.src.now result }
+        ensures is { tail offset (spot self.entry) (rest self.entry) ≡ passed_to self.entry.base self.entry.at.src.now result }
         ensures within { EndsWithin self.entry.at.src.now self.entry.at.place result }
     {
         let number = self.placed(exact_line(self.at, b"startxref"))?;

@@ -40,7 +40,7 @@ pub fn read_section(base: usize, src: &[u8], rows: &mut Rows) -> Result<Section,
     let word_end = word.placed(exact(word.at, b"trailer"))?;
     let dictionary = dictionary_at(base, src, word_end)?;
     let tail_start = view.at.to(dictionary.end).skip_space();
-    // `usize` has no `From` for `u64`
+    // there is no `From` between `usize` and `u64`
     let end = view.to(tail_start).tail(base as u64)?;
     Ok(Section {
         end,

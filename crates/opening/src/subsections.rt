@@ -1,4 +1,5 @@
 // The subsections of a section. Each entry takes 20 bytes of the window, so that there is room for the rows of all of them.
+// That there is room (`Window`) stays a clause of each reader here: it speaks of the place and of the rows, two values that change apart.
 ghost use Rattle.std.specs.Prelude.{◌≡◌, ◌+◌, ◌*◌, ◌^◌, ◌<◌, ◌≤◌, not, ◌&&◌, ◌++◌, length, drop, IfOk, ◌==◌};
 ghost use Rattle.format.specs.Sections.{slots, sub, begins_digit, subs, all_subs, listed};
 ghost use Rattle.format.specs.Strings.{turns};
