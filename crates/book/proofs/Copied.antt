@@ -1,16 +1,9 @@
 -- Bytes copied part by part.
 use Rattle.std.proofs.Common.{◌≡◌, ℕ, ◌+◌, ◌-◌, ◌≤◌, List, ◌++◌, length, take, drop, Ok, Err, Result, sym, ap, ◌∙◌, append_assoc, arith, length-drop, length-take, take-take, take-add}
 use lib.Seq.{take-append-le}
-use Rattle.std.proofs.lemmas.List.{append-nil, drop_all}
 use Rattle.faults.specs.declared.fault.Fault.{Fault}
 use Rattle.stores.specs.Meanings.{Meaning, Appends, Filled}
 use Rattle.book.specs.Copies.{Grown}
-
--- a window that lies in the bytes is filled whole
-pub filled_whole : (bytes b after : List ℕ) (from r m : ℕ) → length b ≡ m → m ≤ length bytes - from → Filled bytes from b r after → after ≡ take m (drop from bytes)
-filled_whole bytes b after from r m l h f =
-    let n : r ≡ m = omega (arith, f.count_is) in
-    f.after_is ∙ ap (λ t. take r (drop from bytes) ++ t) (drop_all r b (omega arith)) ∙ append-nil _ ∙ ap (λ k. take k (drop from bytes)) n
 
 -- what stands before a place of the window that was filled
 pub filled_front : (bytes b after : List ℕ) (from r k : ℕ) → k ≤ r → Filled bytes from b r after → take k after ≡ take k (drop from bytes)

@@ -19,6 +19,7 @@ impl Layer {
     pub fn number(self) -> u8
         ensures { result ≡ layer_number self }
     {
+        // the number is the variant's own, and no `From` gives that
         self as u8
     }
 

@@ -45,6 +45,7 @@ impl Reason {
     pub fn number(self) -> u8
         ensures { result ≡ (rule_of self).number }
     {
+        // the number is the variant's own, and no `From` gives that
         self as u8
     }
 

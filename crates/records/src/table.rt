@@ -23,6 +23,7 @@ pub fn lay(cells: &mut Vec<Cell>, first: usize, size: usize, listed: &[(u64, Cel
     ensures len { vec_len cells.new ≡ vec_len cells.old + size }
     ensures capacity { vec_capacity cells.new ≡ vec_capacity cells.old }
 {
+    // the cells are read while they grow, so no iterator lends them
     for n in 0..size {
         // there is no `From` of `usize` for `u64`
         let cell = match listed_cell(listed, n as u64) {

@@ -1,7 +1,7 @@
 // Revisions that are drawn out, opened alone.
-ghost use Rattle.runs.specs.Extracts.{Extracts};
+ghost use Rattle.runs.specs.Extracts.{DrawsAlone, Extracts};
 
-use crate::outcome::Stopped;
+use crate::outcome::{Stopped, given_back};
 use book::book::{Book, Memory};
 use faults::fault::Fault;
 use stores::store::Store;
@@ -13,6 +13,16 @@ pub enum ExtractError {
     NotEmpty,
     // the drawing was refused
     Refused(Fault),
+}
+
+// Draws revision k out into a store, if that holds no bytes.
+fn draw_alone<S: Store, T: Store>(book: &Book<S>, k: usize, out: &mut T) -> Result<(), ExtractError>
+    ensures { DrawsAlone S.Store.meaning T.Store.meaning book.now k out.old result out.new }
+{
+    if out.len() > 0 {
+        return Err(ExtractError::NotEmpty);
+    }
+    book.draw(k, out).map_err(ExtractError::Refused)
 }
 
 // Draws revision k out into a store that holds no bytes, and opens it there by a book of its own.
@@ -27,30 +37,17 @@ pub fn open_alone<S: Store, T: Store>(
 ) -> Result<Book<T>, Stopped<T, ExtractError>>
     ensures { Extracts S.Store.meaning T.Store.meaning book.now k out result }
 {
-    if out.len() > 0 {
+    // store and memory go back with the cause, and so not by `?`
+    if let Err(cause) = draw_alone(book, k, &mut out) {
         return Err(Stopped {
             store: out,
             memory,
-            cause: ExtractError::NotEmpty,
-        });
-    }
-    if let Err(fault) = book.draw(k, &mut out) {
-        return Err(Stopped {
-            store: out,
-            memory,
-            cause: ExtractError::Refused(fault),
+            cause,
         });
     }
     let mut alone = Book::new(out, memory);
     match alone.open() {
         Ok(_) => Ok(alone),
-        Err(fault) => {
-            let (store, memory) = alone.into_parts();
-            Err(Stopped {
-                store,
-                memory,
-                cause: ExtractError::Refused(fault),
-            })
-        }
+        Err(fault) => Err(given_back(alone, ExtractError::Refused(fault))),
     }
 }

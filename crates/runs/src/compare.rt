@@ -13,6 +13,8 @@ use stores::store::Store;
 // From the same opening bytes, two files that keep equally many opening revisions are equal, byte for byte, exactly when they hold the same
 // updates in the same order, by the accounts of the calls and their answers. So a file says what was kept in it, and nothing of the ways
 // that led there: not which calls were refused, what was abandoned, or what was held before the book went back.
+//
+// Each side is what `work` takes, given one by one as there: a struct of the three would be made for this call alone, and taken apart in it.
 pub fn equal_files_hold_equal_updates<S: Store, T: Store>(
     heap: Global,
     first: S,

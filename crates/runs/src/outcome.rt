@@ -1,4 +1,7 @@
 // What a list of calls leaves.
+ghost use Rattle.std.specs.Prelude.{◌≡◌};
+ghost use Rattle.book.specs.Books.{store_in};
+
 use book::book::{Book, Memory};
 use book::slip::Slip;
 use faults::fault::Fault;
@@ -27,4 +30,17 @@ pub struct Stopped<S, C> {
     pub store: S,
     pub memory: Memory,
     pub cause: C,
+}
+
+// Takes a book apart again: its store and its memory go back with the cause.
+pub(crate) fn given_back<S: Store, C>(book: Book<S>, cause: C) -> Stopped<S, C>
+    ensures store { result.store ≡ store_in book }
+    ensures cause { result.cause ≡ cause }
+{
+    let (store, memory) = book.into_parts();
+    Stopped {
+        store,
+        memory,
+        cause,
+    }
 }

@@ -25,14 +25,10 @@ fn make_with<S: Store>(book: &mut Book<S>, slip: &mut Slip, call: &Call<'_>) -> 
             *slip = owed;
             Ok(())
         }
-        Call::Put {
-            spent: _,
-            number,
-            body,
-        } => book.put(slip, *number, body),
-        Call::Remove { spent: _, number } => book.remove(slip, *number),
-        Call::Commit { spent: _ } => book.commit(slip).map(|_| ()),
-        Call::Abandon { spent: _ } => book.abandon(slip),
+        Call::Put { number, body, .. } => book.put(slip, *number, body),
+        Call::Remove { number, .. } => book.remove(slip, *number),
+        Call::Commit { .. } => book.commit(slip).map(|_| ()),
+        Call::Abandon { .. } => book.abandon(slip),
         Call::Back { revision } => book.back(*revision),
     }
 }

@@ -5,7 +5,7 @@ ghost use Rattle.book.specs.Books.{moment_of, store_in};
 ghost use Rattle.runs.specs.Made.{MakesAll, Tied};
 ghost use Rattle.runs.specs.Works.{Worked, had_memory};
 
-use crate::outcome::{Stopped, Work, WorkError};
+use crate::outcome::{Stopped, Work, WorkError, given_back};
 use crate::step::make_call;
 use book::book::{Book, Memory};
 use book::call::Call;
@@ -44,6 +44,7 @@ fn work_on<S: Store>(
     ensures worked { Worked S.Store.meaning (store_in book) calls.now result }
     ensures remembers { had_memory result ≡ true }
 {
+    // store and memory go back with the cause, and so not by `?`
     match book.open() {
         Ok(_) => {
             let mut slip = Slip::spent();
@@ -54,14 +55,7 @@ fn work_on<S: Store>(
                 answers,
             })
         }
-        Err(fault) => {
-            let (store, memory) = book.into_parts();
-            Err(Stopped {
-                store,
-                memory,
-                cause: WorkError::Refused(fault),
-            })
-        }
+        Err(fault) => Err(given_back(book, WorkError::Refused(fault))),
     }
 }
 

@@ -173,9 +173,8 @@ mod tests {
         let (first, _answers, _owed) = left(rt.alloc(), 356, &straight)?;
         let (second, _more, _open) = left(rt.alloc(), 700, &around)?;
         assert!(rt; first.len() == 356 && second.len() == 356);
-        for i in 0..356 {
-            assert_eq!(rt; first.byte_at(i), second.byte_at(i));
-        }
+        let (one, other) = (first.into_memory(), second.into_memory());
+        assert!(rt; one.as_slice() == &other.as_slice()[..356]);
         Ok(())
     }
 

@@ -1,10 +1,6 @@
--- The first m of xs, or all of them, and then the first u of ys: its length, its items and its fronts.
-use Rattle.std.proofs.Common.{◌≡◌, ℕ, ◌+◌, ◌-◌, ◌<◌, ◌≤◌, min, List, ◌++◌, length, get_or, take, drop, Some, None, sym, ap, ◌∙◌, ⊎_elim, append_assoc, arith, length-append, length-drop, length-take}
-use lib.Seq.{take-append-le, take-append-add}
-use Rattle.std.specs.List.{slice_get}
-use Rattle.std.proofs.lemmas.List.{append-nil, drop_all, drop_at, drop-drop, get_or_append_left, get_or-append_right, get_or-take, length-take-le, take_all, take_at, take-take}
-use Rattle.std.proofs.lemmas.Option.{slice_get-get_or, slice_get_past}
-use Rattle.std.proofs.lemmas.Bool.{cases_lt}
+-- The first m of xs, or all of them, and then the first u of ys, read into a buffer.
+use Rattle.std.proofs.Common.{◌≡◌, ℕ, ◌+◌, ◌-◌, ◌≤◌, min, List, ◌++◌, length, take, drop, sym, ap, ◌∙◌, append_assoc, arith, length-append, length-drop, length-take}
+use Rattle.std.proofs.lemmas.List.{append-nil, drop_all, drop_at, drop-drop, length-take-le, take_all, take_at}
 use Rattle.stores.specs.Meanings.{Filled}
 use Rattle.stores.proofs.Windows.{front_window, window_join}
 
@@ -18,42 +14,6 @@ module _ (m u : ℕ) (xs ys : List ℕ) (h : u ≤ length ys) where
   -- its length
   pub row_length : length row ≡ base + u
   row_length = simp (length-append, length-take) (omega arith)
-
-  -- a byte of the first list
-  pub row_below : (p : ℕ) → p < base → slice_get xs p ≡ slice_get row p
-  row_below p l =
-      let a : p < length (take m xs) = simp length-take (omega arith) in
-      slice_get-get_or xs p 0 (omega arith) ∙ ap Some (sym (get_or_append_left _ _ 0 p a ∙ get_or-take m xs p 0 (omega arith))) ∙ sym (slice_get-get_or row p 0 (omega (arith, row_length)))
-
-  -- a byte of the second list
-  row_tail : (p : ℕ) → base ≤ p → p - base < u → Some (get_or ys (p - base) 0) ≡ slice_get row p
-  row_tail p l k =
-      ap Some (sym (get_or-append_right (take m xs) (take u ys) base p 0 (length-take m xs) l ∙ get_or-take u ys (p - base) 0 k)) ∙ sym (slice_get-get_or row p 0 (omega (arith, row_length)))
-
-  -- no byte from the length on
-  row_past : (p : ℕ) → base + u ≤ p → None ≡ slice_get row p
-  row_past p l = sym (slice_get_past row p (omega (arith, row_length)))
-
-  -- what stands behind the first list
-  pub row_behind : (p : ℕ) → base ≤ p → slice_get (take u ys) (p - base) ≡ slice_get row p
-  row_behind p l =
-      let long : length (take u ys) ≡ u = length-take-le u ys h in
-      ⊎_elim
-      (λ (k : p - base < u). slice_get-get_or (take u ys) (p - base) 0 (omega arith) ∙ ap Some (get_or-take u ys (p - base) 0 k) ∙ row_tail p l k)
-      (λ (k : u ≤ p - base). slice_get_past (take u ys) (p - base) (omega arith) ∙ row_past p (omega arith))
-      (cases_lt (p - base) u)
-
-  -- a front that ends in the first list
-  pub row_cut_below : (n : ℕ) → n ≤ base → take n xs ++ take 0 ys ≡ take n row
-  row_cut_below n l =
-      let a : n ≤ length (take m xs) = simp length-take (omega arith) in
-      append-nil (take n xs) ∙ sym (take-append-le n _ _ a ∙ take-take n m xs (omega arith))
-
-  -- a front that ends in the second list
-  pub row_cut_tail : (n : ℕ) → base ≤ n → n ≤ base + u → take m xs ++ take (n - base) ys ≡ take n row
-  row_cut_tail n l k =
-      let e : n ≡ length (take m xs) + (n - base) = simp length-take (omega arith) in
-      sym (ap (λ i. take i row) e ∙ take-append-add (take m xs) (take u ys) (n - base) ∙ ap (λ r. take m xs ++ r) (take-take (n - base) u ys (omega arith)))
 
   -- a window read from the first list into the front of a buffer, and from the second into what is left of it
   pub row_read : (off a start r₁ r₂ : ℕ) (was p q : List ℕ) → a ≡ min (length was) (base - off) → start ≡ off - base → Filled xs off (take a was) r₁ p → Filled (take u ys) start (take (length (p ++ drop a was) - a) (drop a (p ++ drop a was))) r₂ q → Filled row off was (a + r₂) (take a (p ++ drop a was) ++ (q ++ drop (length (p ++ drop a was) - a) (drop a (p ++ drop a was))))

@@ -39,7 +39,7 @@ impl Flat {
         ensures memory { result ≡ memory_of self }
         ensures holds { Holds result (flat_meaning self) }
     {
-        let Flat { memory, used: _ } = self;
+        let Flat { memory, .. } = self;
         memory
     }
 }

@@ -52,12 +52,7 @@ impl<S: Store> Overlay<S> {
     pub fn into_below(self) -> S
         ensures { result ≡ beneath self }
     {
-        let Overlay {
-            below,
-            shown: _,
-            tail: _,
-            used: _,
-        } = self;
+        let Overlay { below, .. } = self;
         below
     }
 

@@ -1,18 +1,12 @@
-use Rattle.std.proofs.Common.{◌≡◌, ◌+◌, ◌-◌, ◌≤◌, take, drop, sym, refl, ap, ◌∙◌, zero-le, arith}
+use Rattle.std.proofs.Common.{◌+◌, ◌-◌, ◌≤◌, take, drop, sym, refl, ap, ◌∙◌, zero-le, arith}
 use Rattle.format.specs.Bytes.{same}
 use Rattle.entries.specs.Cells.{part}
-use Rattle.book.proofs.Sames.{alike, alike_step, unlike, windows_same}
+use Rattle.book.proofs.Sames.{alike_step, unlike, windows_same}
 use Rattle.book.proofs.parts.same_parts.Goals as goal
 
 pub loop-done-init : goal.loop-done-init
 unfolding same
 loop-done-init g c = (zero-le, refl, refl, refl)
-
-pub overflow_add-a : goal.overflow_add-a
-overflow_add-a g c = omega (arith, c.requires.first)
-
-pub overflow_add-b : goal.overflow_add-b
-overflow_add-b g c = omega (arith, c.requires.second)
 
 pub loop-done-preserved : goal.loop-done-preserved
 loop-done-preserved g c =
@@ -42,11 +36,3 @@ returns-then-not-same_bytes g c =
     let f = alike_step bytes c.args.a.start c.args.b.start c.loop-done.done m _ (omega (arith, c.requires.first)) (omega (arith, c.requires.second, c.requires.even)) c.loop-done.invariant.3 e in
     let u = unlike bytes c.args.a.start c.args.b.start (c.loop-done.done + m) count few (omega (arith, c.requires.first)) (omega (arith, c.requires.second, c.requires.even)) f in
     sym u ∙ ap (λ n. same (part bytes c.args.a.start c.args.a.end) (take n (drop c.args.b.start bytes))) c.requires.even
-
-pub returns : goal.returns
-returns g c =
-    let bytes = (g.S.Store.meaning c.args.store.now).bytes in
-    let e : c.loop-done.done ≡ c.args.a.end - c.args.a.start = omega arith in
-    sym c.loop-done.invariant.3
-    ∙ ap (alike bytes c.args.a.start c.args.b.start) e
-    ∙ ap (λ n. same (part bytes c.args.a.start c.args.a.end) (take n (drop c.args.b.start bytes))) c.requires.even

@@ -16,7 +16,9 @@ returns-in-Ok g c = record {
 }
 
 pub returns-in-Err : goal.returns-in-Err
-returns-in-Err g c = record {
-  worked = unopened g.S.Store.meaning c.args.book c.open.new.self c.in-Err.fault _ c.requires.new c.in-Err.ensures.performs c.into_parts-store.ensures;
-  remembers = refl;
-}
+returns-in-Err g c =
+    let cause = c.given_back.ensures.cause in
+    record {
+      worked = rw cause (unopened g.S.Store.meaning c.args.book c.open.new.self c.in-Err.fault _ c.requires.new c.in-Err.ensures.performs c.given_back.ensures.store);
+      remembers = rw cause refl;
+    }

@@ -1,18 +1,14 @@
-use Rattle.std.proofs.Common.{◌≡◌, Ok, Err, refl, ap, subst}
-use Rattle.format.specs.Book.{abandon, spent_after}
+use Rattle.std.proofs.Common.{refl}
+use Rattle.format.specs.Book.{spent_after}
 use Rattle.records.proofs.Answering.{handed}
-use Rattle.book.specs.Books.{Performs}
 use Rattle.book.proofs.book.Book.abandon.Goals as goal
 
-pub returns-in_err-perform : goal.returns-in_err-perform
+pub returns-in_err-perform-clause-slip : goal.returns-in_err-perform-clause-slip
 unfolding spent_after
-returns-in_err-perform g c =
+returns-in_err-perform-clause-slip g c =
     let z = handed c.from_residual.result c.in_err-perform.field-0.0 c.from_residual.ensures.1 in
-    let k = ap abandon c.is_spent-spent.ensures in
-    rw z (record { performs = subst (λ x. Performs g.S.Store.meaning c.args.self.now x (Err c.in_err-perform.field-0.0) c.perform.new.self) k c.in_err-perform.ensures; slip = refl })
+    rw z refl
 
-pub returns : goal.returns
+pub returns-clause-slip : goal.returns-clause-slip
 unfolding spent_after
-returns g c =
-    let k = ap abandon c.is_spent-spent.ensures in
-    record { performs = subst (λ x. Performs g.S.Store.meaning c.args.self.now x (Ok tt) c.perform.new.self) k c.in_ok-perform.ensures; slip = c.spend.ensures }
+returns-clause-slip g c = c.spend.ensures

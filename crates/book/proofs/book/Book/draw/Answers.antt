@@ -1,4 +1,4 @@
-use Rattle.std.proofs.Common.{◌≡◌, take, Ok, Err, sym, refl, ap, ◌∙◌, arith}
+use Rattle.std.proofs.Common.{take, Ok, Err, sym, refl, ap, ◌∙◌, arith}
 use Rattle.std.proofs.lemmas.Bool.{le-leb, lt-leb}
 use Rattle.faults.specs.declared.reason.Reason.TheVariants.{NoSpace}
 use Rattle.faults.specs.Faults.{refused}
@@ -22,13 +22,8 @@ returns-then-row-space g c =
     let file = (g.S.Store.meaning c.args.self.now.store).bytes in
     (d ∙ ap (λ t. must t (refused NoSpace 0) (λ _. Ok (take q.end file))) (lt-leb q.end s (omega (arith, c.space.ensures))) ∙ ap Err (sym c.refused.ensures), refl)
 
-pub join-requires : goal.join-requires
-join-requires g c =
-    let r = c.in_ok-row.ensures in
-    record {
-      inside = (draw_rows _ _ _ c.args.k 0 r.0).short c.in_ok-row.row r.1;
-      room = omega (arith, c.space.ensures);
-    }
+pub join-requires-clause-inside : goal.join-requires-clause-inside
+join-requires-clause-inside g c = let r = c.in_ok-row.ensures in (draw_rows _ _ _ c.args.k 0 r.0).short c.in_ok-row.row r.1
 
 pub returns : goal.returns
 returns g c =

@@ -1,4 +1,4 @@
-use Rattle.std.proofs.Common.{◌≡◌, false, Ok, Err, sym, refl, ap, ◌∙◌, subst}
+use Rattle.std.proofs.Common.{false, Ok, sym, refl, ap, ◌∙◌, subst}
 use Rattle.format.specs.Book.{remove, updating, decide, newest}
 use Rattle.format.specs.Updates.{with_change, removed}
 use Rattle.keeping.specs.Standing.{SoundIn}
@@ -50,9 +50,6 @@ returns g c =
     (updating_phase m b c.args.self.now.sound c.requires)
     (ap (λ p. phase_of p (update_of c.remove.new.self)) c.requires ∙ ap updating c.remove.ensures)
     (remove_step (m b.store) (update_in b) c.args.number d)
-
-pub invariant_of-self : goal.invariant_of-self
-invariant_of-self g c = record { sound = c.args.self.now.sound }
 
 pub invariant_of-self-2 : goal.invariant_of-self-2
 invariant_of-self-2 g c =

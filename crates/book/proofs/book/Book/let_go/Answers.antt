@@ -1,8 +1,7 @@
 use Rattle.std.proofs.Common.{false, Ok, refl}
 use Rattle.format.specs.Book.{abandon, standing, updating}
-use Rattle.keeping.proofs.Sound.{sound_stays}
 use Rattle.book.specs.Books.{update_in}
-use Rattle.book.proofs.Performed.{performs_at, updating_sound, updating_phase}
+use Rattle.book.proofs.Performed.{performs_at, updating_phase}
 use Rattle.book.proofs.Steps.{abandon_step}
 use Rattle.book.proofs.book.Book.let_go.Goals as goal
 
@@ -12,9 +11,3 @@ returns g c =
     let m = g.S.Store.meaning in
     performs_at b _ (abandon false) (Ok tt) (updating (update_in b)) standing (updating_phase m b c.args.self.now.sound c.requires) refl
     (abandon_step (m b.store) (update_in b))
-
-pub invariant_of-self : goal.invariant_of-self
-invariant_of-self g c =
-    let b = c.args.self.now in
-    let m = g.S.Store.meaning in
-    record { sound = sound_stays.abandon (m b.store).bytes _ _ (update_in b) (updating_sound m b c.args.self.now.sound c.requires) }

@@ -1,5 +1,5 @@
-use Rattle.book.specs.declared.call.Phase.TheVariants.{Shut, Standing, Updating}
-use Rattle.book.proofs.Obstacles.{shut_others, standing_others, updating_others}
+use Rattle.book.specs.declared.call.Phase.TheVariants.{Shut, Standing}
+use Rattle.book.proofs.Obstacles.{shut_others, standing_others}
 use Rattle.book.proofs.Performed.{not_allowed}
 use Rattle.book.proofs.book.Book.perform.Goals as goal
 
@@ -10,7 +10,3 @@ returns-in_default g c =
 pub returns-in_default-call : goal.returns-in_default-call
 returns-in_default-call g c =
     not_allowed g.S.Store.meaning c.args.self.now Standing c.args.call.now _ c.in-Standing.is (standing_others c.args.call.now c.in_default-call.not-Begin c.in_default-call.not-Back) c.refusal-in_default-call.ensures c.args.self.now.sound
-
-pub returns-in_default-call-2 : goal.returns-in_default-call-2
-returns-in_default-call-2 g c =
-    not_allowed g.S.Store.meaning c.args.self.now Updating c.args.call.now _ c.in-Updating.is (updating_others c.args.call.now c.in_default-call-2.not-Put c.in_default-call-2.not-Remove c.in_default-call-2.not-Commit c.in_default-call-2.not-Abandon) c.refusal-in_default-call-2.ensures c.args.self.now.sound

@@ -1,5 +1,5 @@
-use Rattle.std.proofs.Common.{◌≡◌, ◌+◌, ◌<◌, ◌++◌, length, take, drop, ap, ◌∙◌, arith}
-use Rattle.std.proofs.lemmas.List.{append-nil, drop_all, length-take-le}
+use Rattle.std.proofs.Common.{◌≡◌, ◌+◌, ◌<◌, length, take, ◌∙◌, arith}
+use Rattle.std.proofs.lemmas.List.{length-take-le}
 use Rattle.stores.proofs.Windows.{filled_more, window_never}
 use Rattle.stores.proofs.store.Store.read.Goals as goal
 
@@ -13,16 +13,3 @@ loop-i-preserved g c =
       | goal.in-Some w ↦ w.window-is ∙ filled_more xs c.args.from was c.loop-i.window c.loop-i.i w.in-Some.b c.loop-i.invariant (omega arith) h w.in-Some.ensures
       | goal.in_default w ↦ absurd (window_never xs c.args.from c.loop-i.i h w.in_default.ensures)
     ]
-
-pub returns : goal.returns
-returns g c =
-    let xs = (g.Self.Store.meaning c.args.self.now).bytes in
-    let n = c.min-count.result in
-    let was = take n c.args.buffer.now in
-    let long : length was ≡ n = length-take-le _ _ (omega arith) in
-    let end : c.loop-i.i ≡ n = omega arith in
-    record {
-      count_is = omega arith;
-      after_is = ap (λ t. t ++ drop n c.args.buffer.now)
-          (c.loop-i.invariant ∙ ap (λ k. take k (drop c.args.from xs) ++ drop k was) end ∙ ap (λ t. take n (drop c.args.from xs) ++ t) (drop_all n was (omega arith)) ∙ append-nil _);
-    }
