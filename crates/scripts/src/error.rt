@@ -79,6 +79,7 @@ impl fmt::Display for ReadError {
     }
 }
 
+// By hand, as clauses name what `?` makes of an error: a derived `From` has no contract.
 impl From<ScriptError> for ReadError {
     ghost from_gives = { λ e r. r ≡ Wrong e };
 

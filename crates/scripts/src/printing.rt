@@ -16,6 +16,7 @@ fn add_decimal(out: &mut Vec<u8>, n: u64) -> Result<(), AllocError>
     ensures { OnOk result (out.new.items ≡ out.old.items ++ decimal n) }
 {
     if n < 10 {
+        // `as`: what is cast is below 10, and `u8::try_from` would have an answer to what cannot be.
         out.push(b'0' + n as u8)?;
         return Ok(());
     }
