@@ -33,7 +33,7 @@ fn tokens(heap: Global, src: &[u8]) -> Answer
     let mut values = Vec::new(heap);
     let mut place = 0;
     loop {
-        let found = match Lexer::at(src, place).token() {
+        let found = match (Lexer { src, place }).token() {
             Ok(found) => found,
             Err(fault) => return Err(Setback::Fault(fault)),
         };
