@@ -31,7 +31,7 @@ fn tokens(heap: Global, src: &[u8]) -> Answer
     let mut values = Vec::new(heap);
     let mut place = 0;
     loop {
-        let found = Lexer::at(src, place).token()?;
+        let found = Lexer { src, place }.token()?;
         let Some(sort) = Sort::of(found.token) else {
             return Ok(values);
         };
