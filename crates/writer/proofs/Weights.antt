@@ -58,9 +58,10 @@ weight_most n (r ∷ rs) =
 pub weight_bound : (n : ℕ) (h : Held) → weight n (update_of h) ≤ most_object_bytes
 weight_bound n h =
     let m = weight_most n (update_of h) in
-    let l = length-map h.changes.items (row_in (pool_of h)) in
-    let few = h.few in
-    let small = h.small in
+    let l = length-map h.changes.items.items (row_in (pool_of h)) in
+    let few = h.changes.few in
+    let small = h.bodies.few in
     let all = h.all in
-    let ok = h.changes.ok in
+    let ok = h.changes.items.ok in
+    let ok' = h.bodies.items.ok in
     omega arith

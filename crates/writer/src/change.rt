@@ -1,5 +1,5 @@
 // Changes of an open update, the bodies of which are kept elsewhere.
-ghost use Rattle.std.specs.Prelude.{◌≡◌, ◌+◌, ◌≤◌, ◌==◌, ◌<◌, length, insert, nat_lt, vec_capacity, vec_items, vec_len, IfSome};
+ghost use Rattle.std.specs.Prelude.{◌≡◌, ◌≤◌, ◌==◌, ◌<◌, length, nat_lt, IfSome};
 ghost use Rattle.std.specs.List.{find, position};
 ghost use Rattle.std.specs.Option.{option_map};
 ghost use Rattle.format.specs.Bytes.{Bytes};
@@ -39,22 +39,11 @@ fn first_greater(changes: &[Change], n: usize) -> Option<usize>
 }
 
 // The first place whose number is greater.
-fn place_for(changes: &[Change], n: usize) -> usize
+pub(crate) fn place_for(changes: &[Change], n: usize) -> usize
     ensures is { result ≡ place_for n changes.now }
     ensures within { result ≤ length changes.now }
 {
     first_greater(changes, n).unwrap_or(changes.len())
-}
-
-// Sets a change at its place among the others. There is room, so that this cannot fail.
-pub(crate) fn set(changes: &mut Vec<Change>, one: Change)
-    requires { vec_len changes.old < vec_capacity changes.old }
-    ensures items { vec_items changes.new ≡ insert (vec_items changes.old) (place_for one.number (vec_items changes.old)) one }
-    ensures len { vec_len changes.new ≡ vec_len changes.old + 1 }
-    ensures capacity { vec_capacity changes.old ≤ vec_capacity changes.new }
-{
-    let place = place_for(changes, one.number);
-    let _ = changes.insert(place, one);
 }
 
 // How many numbers are new: they lie from Size on.

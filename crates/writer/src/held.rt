@@ -1,10 +1,11 @@
 // An open update, in memory that was taken once.
-ghost use Rattle.std.specs.Prelude.{◌≡◌, ◌≤◌, true, vec_len, vec_capacity};
-ghost use Rattle.format.specs.Book.{most_body_bytes, most_changes};
+ghost use Rattle.std.specs.Prelude.{◌≡◌, true, length};
+ghost use Rattle.entries.specs.Reserving.{items_of};
 ghost use Rattle.format.specs.Updates.{body_bytes};
 ghost use Rattle.writer.specs.Changes.{all_within, update_in};
 
 use crate::change::Change;
+use entries::reserved::Reserved;
 
 mod methods;
 
@@ -17,12 +18,8 @@ pub const MOST_BODY_BYTES: usize = 16384;
 // change, and none is taken after a book is made: so all bodies stand in one list, a change has the places of its own, and changes are searched by number.
 #[derive(Drop)]
 pub struct Held {
-    changes: Vec<Change>,
-    bodies: Vec<u8>,
-    ghost few: { vec_len changes ≤ most_changes },
-    ghost small: { vec_len bodies ≤ most_body_bytes },
-    ghost places: { most_changes ≤ vec_capacity changes },
-    ghost space: { most_body_bytes ≤ vec_capacity bodies },
-    ghost within: { all_within (vec_len bodies) changes.items ≡ true },
-    ghost all: { body_bytes (update_in bodies.items changes.items) ≡ vec_len bodies },
+    changes: Reserved<Change, MOST_CHANGES>,
+    bodies: Reserved<u8, MOST_BODY_BYTES>,
+    ghost within: { all_within (length (items_of bodies)) (items_of changes) ≡ true },
+    ghost all: { body_bytes (update_in (items_of bodies) (items_of changes)) ≡ length (items_of bodies) },
 }

@@ -1,5 +1,5 @@
-// Making such a list, asking it, and adding to it.
-ghost use Rattle.std.specs.Prelude.{◌≡◌, ◌<◌, [], ◌∷◌, ◌++◌, length, IfOk};
+// Making such a list, asking it, and adding to it. What adds asks for room, and so it never fails.
+ghost use Rattle.std.specs.Prelude.{◌≡◌, ◌+◌, ◌<◌, ◌≤◌, [], ◌∷◌, ◌++◌, length, insert, IfOk};
 ghost use Rattle.entries.specs.Reserving.{items_of};
 
 use super::Reserved;
@@ -38,7 +38,28 @@ impl<T, const MOST: usize> Reserved<T, MOST> {
         self.items.push_reserved(one);
     }
 
-    // The items, in the order in which they were added.
+    // Some items more.
+    pub fn extend_from_slice(&mut self, more: &[T])
+    where
+        T: Copy,
+        requires { length (items_of self.old) + length more.now ≤ MOST }
+        ensures { items_of self.new ≡ items_of self.old ++ more.now }
+    {
+        let _ = self.items.extend_from_slice(more);
+    }
+
+    // One item more at a place among the others.
+    pub fn insert(&mut self, place: usize, one: T)
+    where
+        T: Drop,
+        requires place { place ≤ length (items_of self.old) }
+        requires room { length (items_of self.old) < MOST }
+        ensures { items_of self.new ≡ insert (items_of self.old) place one }
+    {
+        let _ = self.items.insert(place, one);
+    }
+
+    // The items, in their order.
     pub fn as_slice(&self) -> &[T]
         ensures { result.now ≡ items_of self.now }
     {

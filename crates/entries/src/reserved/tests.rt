@@ -12,6 +12,8 @@ fn full_and_let_go(rt: HostRuntime) -> Result<(), Fail> {
     list.clear();
     assert!(rt; list.len() == 0);
     list.push(b'd');
-    assert!(rt; list.as_slice() == b"d".as_slice());
+    list.extend_from_slice(b"f");
+    list.insert(1, b'e');
+    assert!(rt; list.as_slice() == b"def".as_slice());
     Ok(())
 }

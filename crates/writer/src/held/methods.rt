@@ -1,5 +1,5 @@
 // Making an open update, asking it, and changing it.
-ghost use Rattle.std.specs.Prelude.{◌≡◌, ◌≤◌, true, [], length, is_some, IfSome, IfOk, None, vec_len};
+ghost use Rattle.std.specs.Prelude.{◌≡◌, ◌≤◌, true, [], length, is_some, IfSome, IfOk, None};
 ghost use Rattle.std.specs.Option.{option_map};
 ghost use Rattle.entries.specs.Cells.{part};
 ghost use Rattle.format.specs.Book.{has_room, most_changes};
@@ -9,7 +9,8 @@ ghost use Rattle.writer.specs.Changes.{content_in};
 ghost use Rattle.writer.specs.Helds.{Kept, pool_of, update_of};
 
 use super::{Held, MOST_BODY_BYTES, MOST_CHANGES};
-use crate::change::{Change, Content, change_of, count_new, set};
+use crate::change::{Change, Content, change_of, count_new, place_for};
+use entries::reserved::Reserved;
 use std::alloc::{AllocError, Global};
 
 impl Held {
@@ -17,8 +18,8 @@ impl Held {
     pub fn new(heap: Global) -> Result<Held, AllocError>
         ensures { IfOk result (λ h. update_of h ≡ []) }
     {
-        let changes = Vec::with_capacity(heap, MOST_CHANGES)?;
-        let bodies = Vec::with_capacity(heap, MOST_BODY_BYTES)?;
+        let changes = Reserved::new(heap)?;
+        let bodies = Reserved::new(heap)?;
         Ok(Held { changes, bodies })
     }
 
@@ -49,7 +50,7 @@ impl Held {
         ensures is { result ≡ new_numbers size (update_of self.now) }
         ensures few { result ≤ most_changes }
     {
-        count_new(&self.changes, size)
+        count_new(self.changes.as_slice(), size)
     }
 
     // The change of a number, if it has one.
@@ -57,7 +58,7 @@ impl Held {
         ensures is { option_map (content_in (pool_of self.now)) result ≡ find n (update_of self.now) }
         ensures kept { IfSome result (λ c. Kept self.now c) }
     {
-        change_of(&self.changes, n)
+        change_of(self.changes.as_slice(), n)
     }
 
     // Whether a number has a change.
@@ -79,7 +80,7 @@ impl Held {
         requires { Kept self.now (Content.Body start end) }
         ensures { result.now ≡ part (pool_of self.now) start end }
     {
-        &self.bodies[start..end]
+        &self.bodies.as_slice()[start..end]
     }
 
     // Puts a body, where the number has no change yet and there is room, so that neither list asks for memory.
@@ -89,11 +90,12 @@ impl Held {
         requires room { has_room (update_of self.old) (length bytes.now) ≡ true }
         ensures { update_of self.new ≡ with_change n (body bytes.now) (update_of self.old) }
     {
+        let place = place_for(self.changes.as_slice(), n);
         let start = self.body_bytes();
         let end = start + bytes.len();
         let content = Content::Body { start, end };
-        let _ = self.bodies.extend_from_slice(bytes);
-        set(&mut self.changes, Change { number: n, content });
+        self.bodies.extend_from_slice(bytes);
+        self.changes.insert(place, Change { number: n, content });
     }
 
     // Removes an object, where the number has no change yet and there is room.
@@ -103,7 +105,8 @@ impl Held {
         requires room { has_room (update_of self.old) 0 ≡ true }
         ensures { update_of self.new ≡ with_change n removed (update_of self.old) }
     {
+        let place = place_for(self.changes.as_slice(), n);
         let content = Content::Removed;
-        set(&mut self.changes, Change { number: n, content });
+        self.changes.insert(place, Change { number: n, content });
     }
 }

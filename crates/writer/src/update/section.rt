@@ -1,5 +1,5 @@
 // The section of an update.
-ghost use Rattle.std.specs.Prelude.{◌≡◌, ◌^◌, ◌<◌, ◌++◌, Some};
+ghost use Rattle.std.specs.Prelude.{◌^◌, ◌<◌, ◌++◌, Some};
 ghost use Rattle.format.specs.Objects.{Entries};
 ghost use Rattle.format.specs.Writing.{prev_bytes, runs, section_bytes};
 ghost use Rattle.writer.specs.Drafts.{Adds, Room};

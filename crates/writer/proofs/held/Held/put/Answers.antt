@@ -1,48 +1,56 @@
-use Rattle.std.proofs.Common.{◌≡◌, ◌+◌, true, length, is_ok, refl, ap, ◌∙◌, arith}
-use Rattle.std.proofs.lemmas.Bool.{cond-true}
+use Rattle.std.proofs.Common.{◌≡◌, ◌+◌, length, insert, refl, ap, ◌∙◌, arith, length-append}
+use Rattle.entries.specs.Reserving.{items_of}
 use Rattle.format.specs.Updates.{body, body_bytes, body_length}
 use Rattle.writer.specs.declared.change.Content.TheVariants.{Body}
 use Rattle.writer.specs.declared.change.Change.{Change}
 use Rattle.writer.specs.Changes.{update_in, place_for}
+use Rattle.writer.specs.Helds.{pool_of}
 use Rattle.writer.proofs.Changes.{body_put, bytes_with, new_within, room, still_within}
 use Rattle.writer.proofs.held.Held.put.Goals as goal
+
+pub extend_from_slice-requires : goal.extend_from_slice-requires
+extend_from_slice-requires c =
+    let h = c.args.self.now in
+    let r = room (length c.args.bytes.now) (pool_of h) (items_of h.changes) c.requires.room in
+    let w = h.all in
+    omega arith
+
+pub insert-requires : goal.insert-requires
+insert-requires c =
+    let h = c.args.self.now in
+    let r = room (length c.args.bytes.now) (pool_of h) (items_of h.changes) c.requires.room in
+    let p = c.place_for-place.ensures.within in
+    let q = ap length c.as_slice.ensures in
+    (omega arith, (omega arith, omega arith))
 
 pub invariant_of-self : goal.invariant_of-self
 unfolding body_length
 invariant_of-self c =
     let h = c.args.self.now in
-    let pool = h.bodies.items in
-    let cs = h.changes.items in
+    let pool = pool_of h in
+    let cs = items_of h.changes in
     let more = c.args.bytes.now in
     let start = c.body_bytes-start.result in
-    let r = room (length more) pool cs c.requires.room in
+    let pool' = items_of c.extend_from_slice.new.self in
     let w = h.all in
-    let v = h.bodies.ok in
-    let x = h.changes.ok in
-    let start_is : start ≡ h.bodies.len = c.body_bytes-start.ensures ∙ h.all in
-    let ok : is_ok c.extend_from_slice.result ≡ true = c.extend_from_slice.ensures.succeeds (omega arith) in
-    let pool' = c.extend_from_slice.ensures.items ∙ cond-true _ _ _ ok in
-    let len' = c.extend_from_slice.ensures.len ∙ cond-true _ _ _ ok in
+    let start_is : start ≡ length pool = c.body_bytes-start.ensures ∙ h.all in
+    let grown : length pool' ≡ length pool + length more = ap length c.extend_from_slice.ensures ∙ length-append pool more in
     let one : Change = record { number = c.args.n; content = Body start (start + length more) } in
-    let e = c.set.ensures in
-    let count' = e.len in
-    let a = e.capacity in
-    let b = c.extend_from_slice.ensures.capacity in
-    let view = body_put c.args.n start (start + length more) h.bodies.len pool more c.extend_from_slice.new.self.items cs c.set.new.changes.items c.requires.free h.within v.0 start_is refl pool' e.items in
-    let in-pool = new_within start (start + length more) c.extend_from_slice.new.self.len (omega arith) (omega arith) in
+    let at : c.place_for-place.result ≡ place_for c.args.n cs = c.place_for-place.ensures.is ∙ ap (place_for c.args.n) c.as_slice.ensures in
+    let e : items_of c.insert.new.self ≡ insert cs (place_for c.args.n cs) one = c.insert.ensures ∙ ap (λ i. insert cs i one) at in
+    let view = body_put c.args.n start (start + length more) (length pool) pool more pool' cs (items_of c.insert.new.self) c.requires.free h.within refl start_is refl c.extend_from_slice.ensures e in
     let sum = ap body_bytes view ∙ bytes_with c.args.n (body more) (update_in pool cs) c.requires.free in
-    record { few = omega arith; small = omega arith; places = omega arith; space = omega arith; within = rw e.items (still_within h.bodies.len c.extend_from_slice.new.self.len (place_for c.args.n cs) one cs h.within (omega arith) in-pool); all = omega arith }
+    let fits = new_within start (start + length more) (length pool') (omega arith) (omega arith) in
+    record { within = rw e (still_within (length pool) (length pool') (place_for c.args.n cs) one cs h.within (omega arith) fits); all = omega arith }
 
 pub returns : goal.returns
 returns c =
     let h = c.args.self.now in
-    let pool = h.bodies.items in
-    let cs = h.changes.items in
+    let pool = pool_of h in
+    let cs = items_of h.changes in
     let more = c.args.bytes.now in
     let start = c.body_bytes-start.result in
-    let r = room (length more) pool cs c.requires.room in
-    let w = h.all in
-    let v = h.bodies.ok in
-    let ok : is_ok c.extend_from_slice.result ≡ true = c.extend_from_slice.ensures.succeeds (omega arith) in
-    let pool' = c.extend_from_slice.ensures.items ∙ cond-true _ _ _ ok in
-    body_put c.args.n start (start + length more) h.bodies.len pool more c.extend_from_slice.new.self.items cs c.set.new.changes.items c.requires.free h.within v.0 (c.body_bytes-start.ensures ∙ h.all) refl pool' c.set.ensures.items
+    let one : Change = record { number = c.args.n; content = Body start (start + length more) } in
+    let at : c.place_for-place.result ≡ place_for c.args.n cs = c.place_for-place.ensures.is ∙ ap (place_for c.args.n) c.as_slice.ensures in
+    body_put c.args.n start (start + length more) (length pool) pool more (items_of c.extend_from_slice.new.self) cs (items_of c.insert.new.self) c.requires.free h.within refl (c.body_bytes-start.ensures ∙ h.all) refl c.extend_from_slice.ensures
+    (c.insert.ensures ∙ ap (λ i. insert cs i one) at)

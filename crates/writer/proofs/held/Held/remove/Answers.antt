@@ -1,29 +1,39 @@
-use Rattle.std.proofs.Common.{refl, ap, ◌∙◌, arith}
+use Rattle.std.proofs.Common.{◌≡◌, length, insert, refl, ap, ◌∙◌, arith}
+use Rattle.entries.specs.Reserving.{items_of}
 use Rattle.format.specs.Updates.{removed, body_bytes, body_length}
-use Rattle.writer.specs.declared.change.Change.{Change}
 use Rattle.writer.specs.declared.change.Content.TheVariants.{Removed}
+use Rattle.writer.specs.declared.change.Change.{Change}
 use Rattle.writer.specs.Changes.{update_in, place_for}
+use Rattle.writer.specs.Helds.{pool_of}
 use Rattle.writer.proofs.Changes.{body_removed, bytes_with, room, still_within}
 use Rattle.writer.proofs.held.Held.remove.Goals as goal
+
+pub insert-requires : goal.insert-requires
+insert-requires c =
+    let h = c.args.self.now in
+    let r = room 0 (pool_of h) (items_of h.changes) c.requires.room in
+    let p = c.place_for-place.ensures.within in
+    let q = ap length c.as_slice.ensures in
+    (omega arith, (omega arith, omega arith))
 
 pub invariant_of-self : goal.invariant_of-self
 unfolding body_length
 invariant_of-self c =
     let h = c.args.self.now in
-    let pool = h.bodies.items in
-    let cs = h.changes.items in
-    let r = room 0 pool cs c.requires.room in
+    let pool = pool_of h in
+    let cs = items_of h.changes in
     let w = h.all in
-    let x = h.changes.ok in
     let one : Change = record { number = c.args.n; content = Removed } in
-    let e = c.set.ensures in
-    let count' = e.len in
-    let a = e.capacity in
-    let view = body_removed c.args.n pool cs c.set.new.changes.items c.requires.free e.items in
+    let at : c.place_for-place.result ≡ place_for c.args.n cs = c.place_for-place.ensures.is ∙ ap (place_for c.args.n) c.as_slice.ensures in
+    let e : items_of c.insert.new.self ≡ insert cs (place_for c.args.n cs) one = c.insert.ensures ∙ ap (λ i. insert cs i one) at in
+    let view = body_removed c.args.n pool cs (items_of c.insert.new.self) c.requires.free e in
     let sum = ap body_bytes view ∙ bytes_with c.args.n removed (update_in pool cs) c.requires.free in
-    record { few = omega arith; small = omega arith; places = omega arith; space = omega arith; within = rw e.items (still_within h.bodies.len h.bodies.len (place_for c.args.n cs) one cs h.within (omega arith) refl); all = omega arith }
+    record { within = rw e (still_within (length pool) (length pool) (place_for c.args.n cs) one cs h.within (omega arith) refl); all = omega arith }
 
 pub returns : goal.returns
 returns c =
     let h = c.args.self.now in
-    body_removed c.args.n h.bodies.items h.changes.items c.set.new.changes.items c.requires.free c.set.ensures.items
+    let cs = items_of h.changes in
+    let one : Change = record { number = c.args.n; content = Removed } in
+    let at : c.place_for-place.result ≡ place_for c.args.n cs = c.place_for-place.ensures.is ∙ ap (place_for c.args.n) c.as_slice.ensures in
+    body_removed c.args.n (pool_of h) cs (items_of c.insert.new.self) c.requires.free (c.insert.ensures ∙ ap (λ i. insert cs i one) at)
