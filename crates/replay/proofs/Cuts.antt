@@ -1,11 +1,6 @@
 -- A line cut at its first space.
-use Rattle.std.proofs.Common.{◌≡◌, ℕ, suc, ◌<◌, List, [], ◌∷◌, ◌++◌, length, get_or, Some, None, Option, refl, ap, arith, ne_eqb}
+use Rattle.std.proofs.Common.{◌≡◌, ℕ, suc, ◌<◌, List, [], ◌∷◌, ◌++◌, length, get_or, refl, ap, arith, ne_eqb}
 use Rattle.replay.specs.Lines.{on_first, words_of}
-
--- an option that holds nothing
-pub left_none : {A : Type 0} (o : Option A) → ((x : A) → o ≡ Some x → ⊥) → o ≡ None
-left_none None h = refl
-left_none (Some x) h = absurd (h x refl)
 
 abbrev pub Spaceless : List ℕ → Type 0
 Spaceless w = (i : ℕ) → i < length w → get_or w i 0 ≡ 32 → ⊥

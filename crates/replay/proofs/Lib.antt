@@ -1,4 +1,3 @@
-mod Cases
 mod Cuts
 mod Hexes
 mod Stretched

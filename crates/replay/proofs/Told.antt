@@ -1,12 +1,12 @@
 -- Tokens that are told one after the other.
-use Rattle.std.proofs.Common.{◌≡◌, ℕ, ◌-◌, ◌<◌, List, [], ◌∷◌, ◌++◌, length, Some, None, sym, refl, ap, ◌∙◌, arith}
+use Rattle.std.proofs.Common.{◌≡◌, ℕ, List, [], ◌∷◌, ◌++◌, Some, None, sym, refl, ap, ◌∙◌, arith}
 use Rattle.format.specs.Bytes.{Bytes}
 use Rattle.format.specs.Tokens as format
 use Rattle.lexer.specs.declared.token.Found.{Found}
 use Rattle.lexer.specs.declared.token.Token.{Token}
 use Rattle.lexer.specs.declared.token.Token.TheVariants.{Unsigned, Signed, Real, Name, Text, Hex, Word, OpenArray, CloseArray, OpenDict, CloseDict, End}
 use Rattle.lexer.specs.Views.{kind_of, found_token}
-use Rattle.replay.specs.Readings.{next_token, TellsToken, TokensBetween, AllTold}
+use Rattle.replay.specs.Readings.{next_token, TellsToken, TokensBetween}
 use Rattle.replay.specs.Sorts.{sort_of}
 use Rattle.replay.specs.declared.answer.Value.{Value}
 use Rattle.replay.specs.declared.answer.Value.TheVariants as values

@@ -1,6 +1,5 @@
 -- Two revisions of a book, and the numbers of which something became.
-use Rattle.std.proofs.Common.{◌≡◌, ℕ, suc, ◌+◌, ◌-◌, ◌<◌, max, false, List, [], ◌∷◌, ◌++◌, Some, None, Ok, Err, Option, Result, sym, refl, ap, ◌∙◌, append_assoc, arith}
-use Rattle.std.specs.Result.{IsErrAnd}
+use Rattle.std.proofs.Common.{◌≡◌, ℕ, suc, ◌+◌, ◌-◌, ◌<◌, max, false, List, [], ◌∷◌, ◌++◌, Some, None, Ok, Err, Option, sym, refl, ap, ◌∙◌, append_assoc, arith}
 use Rattle.faults.specs.declared.fault.Fault.{Fault}
 use Rattle.faults.specs.declared.reason.Reason.TheVariants.{NoRevision}
 use Rattle.faults.specs.Faults.{refused}
@@ -16,8 +15,6 @@ use Rattle.format.specs.Updates.{objects_of}
 use Rattle.book.specs.Differences.{difference, ask_differ}
 use Rattle.book.specs.declared.book.compare.Difference.{Difference}
 use Rattle.reports.specs.declared.differences.Change.{Change}
-use Rattle.reports.specs.declared.trouble.Trouble.{Trouble}
-use Rattle.reports.specs.declared.trouble.Trouble.TheVariants.{Refused}
 use Rattle.reports.specs.Differences.{listing, differing, differences, ask_differences, pair_of, pairs_of}
 
 abbrev found : ℕ → Option Revision → Answer Revision
@@ -70,11 +67,6 @@ list_refuses m k f h =
     (λ g e.
     let q : ◌≡◌ {A = Answer format.Listing} (Err g) (Err f) = sym (ap (λ a. also a (λ r. Ok (listing_of r))) e) ∙ h in
     let z : g ≡ f = cc in e ∙ ap Err z)
-
--- a refusal that is handed up
-pub handed : {A : Type 0} (r : Result A Trouble) (f : Fault) → IsErrAnd r (λ t. t ≡ Refused f) → r ≡ Err (Refused f)
-handed (Ok a) f h = absurd h
-handed (Err t) f h = ap Err h
 
 -- the question refused at the first revision, at the second, and answered
 pub refused_first : (m : Moment) (j k : ℕ) (f : Fault) → ask_list m j ≡ Err f → ask_differences m j k ≡ Err f

@@ -1,21 +1,24 @@
 use Rattle.std.proofs.Common.{◌≡◌, ◌+◌, ◌-◌, ◌++◌, Ok, vec_items, vec_len, vec_capacity, sym, ap, ◌∙◌, append-nil, arith}
+use Rattle.std.proofs.lemmas.Result.{err_from_is_err_and}
 use Rattle.chains.proofs.Steps.{answered, never_answer}
 use Rattle.book.specs.Books.{moment_of}
 use Rattle.reports.specs.Differences.{pairs_of}
-use Rattle.reports.proofs.Between.{handed, list_shows, refused_first, refused_second, behind, differ_shows, all_shown, behind_none, none_if, none_listed, one_listed}
+use Rattle.reports.proofs.Between.{list_shows, refused_first, refused_second, behind, differ_shows, all_shown, behind_none, none_if, none_listed, one_listed}
 use Rattle.reports.proofs.differences.differences.Goals.{in-Some, in_default}
 use Rattle.reports.proofs.differences.differences.Goals as goal
 
 pub returns-in_err-earlier : goal.returns-in_err-earlier
 returns-in_err-earlier g c =
     let m = moment_of g.S.Store.meaning c.args.book.now in
-    rw (handed c.from_residual.result _ c.from_residual.ensures.1) (refused_first m c.args.j c.args.k _ (sym c.in_err-earlier.ensures))
+    let p = err_from_is_err_and c.from_residual.result c.from_residual.ensures.1 in
+    rw (p.1, p.2) (refused_first m c.args.j c.args.k _ (sym c.in_err-earlier.ensures))
 
 pub returns-in_err-later : goal.returns-in_err-later
 returns-in_err-later g c =
     let m = moment_of g.S.Store.meaning c.args.book.now in
     let a = list_shows m c.args.j _ (sym c.in_ok-earlier.ensures) in
-    rw (handed c.from_residual-in_err-later.result _ c.from_residual-in_err-later.ensures.1) (refused_second m c.args.j c.args.k _ _ a (sym c.in_err-later.ensures))
+    let p = err_from_is_err_and c.from_residual-in_err-later.result c.from_residual-in_err-later.ensures.1 in
+    rw (p.1, p.2) (refused_second m c.args.j c.args.k _ _ a (sym c.in_err-later.ensures))
 
 pub returns-in_err-difference : goal.returns-in_err-difference
 returns-in_err-difference g c =
