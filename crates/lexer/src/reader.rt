@@ -6,7 +6,7 @@ use crate::token::Found;
 use faults::fault::Fault;
 
 // The bytes, and the place from which the next token is read.
-#[derive(Clone, Copy)]
+#[derive(Clone, Copy, Debug)]
 pub struct Lexer<'a> {
     pub src: &'a [u8],
     pub place: usize,

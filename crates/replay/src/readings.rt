@@ -29,9 +29,9 @@ fn tokens(heap: Global, src: &[u8]) -> Answer
     ensures { TokensTold src.now result }
 {
     let mut values = Vec::new(heap);
-    let mut place = 0;
+    let mut lexer = Lexer::new(src);
     loop {
-        let found = Lexer { src, place }.token()?;
+        let found = lexer.next()?;
         let Some(sort) = Sort::of(found.token) else {
             return Ok(values);
         };
@@ -40,7 +40,6 @@ fn tokens(heap: Global, src: &[u8]) -> Answer
             from: found.from,
             to: found.to,
         })?;
-        place = found.to;
     }
 }
 
