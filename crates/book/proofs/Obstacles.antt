@@ -1,5 +1,5 @@
 -- Calls that a state does not allow.
-use Rattle.std.proofs.Common.{◌≡◌, ℕ, Bool, true, false, refl, arith}
+use Rattle.std.proofs.Common.{◌≡◌, ℕ, true, false, refl, arith}
 use Rattle.faults.specs.Faults.{refused}
 use Rattle.format.specs.Book.{decide}
 use Rattle.book.specs.declared.call.Phase.{Phase}
@@ -58,12 +58,3 @@ standing_others (Remove x n) h i = refl
 standing_others (Commit x) h i = refl
 standing_others (Abandon x) h i = refl
 standing_others (Back k) h i = absurd (i k refl)
-
-pub updating_others : (c : Call) → ((x : Bool) (n : ℕ) (b : _) → c ≡ Put x n b → ⊥) → ((x : Bool) (n : ℕ) → c ≡ Remove x n → ⊥) → ((x : Bool) → c ≡ Commit x → ⊥) → ((x : Bool) → c ≡ Abandon x → ⊥) → allows Updating c ≡ false
-updating_others Open p r m a = refl
-updating_others Begin p r m a = refl
-updating_others (Put x n b) p r m a = absurd (p x n b refl)
-updating_others (Remove x n) p r m a = absurd (r x n refl)
-updating_others (Commit x) p r m a = absurd (m x refl)
-updating_others (Abandon x) p r m a = absurd (a x refl)
-updating_others (Back k) p r m a = refl

@@ -40,7 +40,8 @@ pub fn cells_of(cells: &[Cell], row: Revision) -> &[Cell]
     &cells[first..end]
 }
 
-// The generation of an object, and where its body starts and ends in the file.
+// The generation of an object, and where its body starts and ends in the file. That it lies in the bytes of a store is asked by those
+// who read it there: it is a cell's places alone, and holds no store.
 #[derive(Clone, Copy, Debug, PartialEq, Eq)]
 pub struct Body {
     pub generation: u32,

@@ -1,6 +1,5 @@
 -- A revision that was drawn out into an empty store, opened by a new book.
-use Rattle.std.proofs.Common.{◌≡◌, ℕ, ◌≤◌, List, [], ◌∷◌, ◌++◌, length, Ok, Err, Result, MatchResult, sym, refl, ap, ◌∙◌, subst, arith}
-use Rattle.std.specs.Result.{IsErrAnd}
+use Rattle.std.proofs.Common.{◌≡◌, ℕ, [], ◌++◌, Ok, Err, Result, sym, refl, ap, ◌∙◌, subst}
 use Rattle.faults.specs.declared.fault.Fault.{Fault}
 use Rattle.stores.specs.Meanings.{Meaning}
 use Rattle.stores.specs.declared.store.Store.{Ghosts}
@@ -11,22 +10,10 @@ use Rattle.book.specs.declared.book.Book.{Book}
 use Rattle.book.specs.Asked.{Draws}
 use Rattle.book.specs.Books.{Performs, moment_of, store_in}
 use Rattle.runs.specs.declared.alone.ExtractError.{ExtractError}
-use Rattle.runs.specs.declared.alone.ExtractError.TheVariants.{Refused}
 use Rattle.runs.specs.Extracts.{DrawsAlone, Extracts}
 use Rattle.runs.proofs.Drawing.{alone, opens_alone}
 
-pub none_left : {A : Type 0} (xs : List A) → length xs ≤ 0 → xs ≡ []
-none_left [] h = refl
-none_left (x ∷ xs) h = absurd (omega arith)
-
--- a drawing into an empty store, whose refusal is a cause
-pub draws_alone : {S T : Type 0} {v : Ghosts S} (f : S → Meaning) (g : T → Meaning) (b : Book S v) (k : ℕ) (out x : T) (r : Result (Unit {0}) Fault) (s : Result (Unit {0}) ExtractError) →
-    MatchResult r (λ u. s ≡ Ok u) (λ z. IsErrAnd s (λ e. e ≡ Refused z)) → (g out).bytes ≡ [] → Draws (moment_of f b) k (g out) r (g x) → DrawsAlone f g b k out s x
-draws_alone f g b k out x (Ok u) s m e d = rw m (e, d)
-draws_alone f g b k out x (Err z) (Ok u) m e d = absurd m
-draws_alone f g b k out x (Err z) (Err c) m e d = rw m (e, d.0, d.1)
-
--- one that was not refused
+-- a drawing that was not refused
 pub not_refused : {S T : Type 0} {v : Ghosts S} (f : S → Meaning) (g : T → Meaning) (b : Book S v) (k : ℕ) (out x : T) (s : Result (Unit {0}) ExtractError) → ((e : ExtractError) → s ≡ Err e → ⊥) → DrawsAlone f g b k out s x →
     ((g out).bytes ≡ []) × Draws (moment_of f b) k (g out) (Ok tt) (g x)
 not_refused f g b k out x (Ok u) other d = d

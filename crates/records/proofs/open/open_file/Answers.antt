@@ -20,7 +20,7 @@ returns-then-not-has_header-clause-is g c =
 pub returns-in_default-clause-is : goal.returns-in_default-clause-is
 returns-in_default-clause-is g c =
     open_tailless (g.S.Store.meaning c.args.store.now).bytes (omega arith) (sym c.if-not-has_header.ensures) (sym c.in_default.is ∙ c.newest_offset.ensures)
-      ∙ ap (λ n. Err (chain_fault NoTail n 0)) (sym c.len-length.ensures) ∙ ap Err (sym c.met-in_default.ensures)
+    ∙ ap (λ n. Err (chain_fault NoTail n 0)) (sym c.len-length.ensures) ∙ ap Err (sym c.met-in_default.ensures)
 
 pub returns-in_err-walk-clause-is : goal.returns-in_err-walk-clause-is
 returns-in_err-walk-clause-is g c =

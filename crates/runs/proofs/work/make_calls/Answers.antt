@@ -1,4 +1,4 @@
-use Rattle.std.proofs.Common.{length, vec_items, refl, ap, ◌∙◌, arith}
+use Rattle.std.proofs.Common.{length, vec_items, refl, ap, ◌∙◌}
 use Rattle.book.specs.Books.{moment_of}
 use Rattle.runs.proofs.Working.{run_none, run_more, one_more}
 use Rattle.runs.proofs.work.make_calls.Goals as goal
@@ -6,10 +6,6 @@ use Rattle.runs.proofs.work.make_calls.Goals as goal
 pub loop-call-init : goal.loop-call-init
 loop-call-init g c =
     (ap length c.requires.none, refl, run_none (moment_of g.S.Store.meaning c.args.book.now) _ _ c.requires.none, c.requires.tied)
-
-pub push_reserved-requires : goal.push_reserved-requires
-push_reserved-requires g c =
-    omega (arith, c.loop-call.answers.ok.0, c.loop-call.invariant.0, c.loop-call.invariant.1, c.requires.room, c.loop-call-test.true)
 
 pub loop-call-preserved : goal.loop-call-preserved
 loop-call-preserved g c =
@@ -19,11 +15,3 @@ loop-call-preserved g c =
       run_more g.S.Store.meaning _ c.args.calls.now before _ c.loop-call.book c.make_call-answer.new.book c.make_call-answer.new.slip _ c.make_call-answer.result c.loop-call.call-index c.loop-call.invariant.0 c.loop-call-test.true c.push_reserved.ensures.items c.loop-call.invariant.2 c.make_call-answer.ensures,
       c.make_call-answer.ensures.tied,
     )
-
-pub returns : goal.returns
-returns g c = record {
-  counted = omega (arith, c.loop-call.invariant.0, c.loop-call-test.false, c.loop-call.auto.call-index-end);
-  run = c.loop-call.invariant.2;
-  sound = c.loop-call.book.sound;
-  tied = c.loop-call.invariant.3;
-}

@@ -1,4 +1,4 @@
-use Rattle.std.proofs.Common.{◌≡◌, length, Ok, Err, sym, ap, ◌∙◌, subst, arith}
+use Rattle.std.proofs.Common.{length, Ok, sym, ap, ◌∙◌, subst, arith}
 use Rattle.records.proofs.Answering.{handed}
 use Rattle.book.specs.Books.{moment_of, revisions_in, cells_in}
 use Rattle.book.specs.Rows.{BodyFound}

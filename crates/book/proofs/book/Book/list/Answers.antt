@@ -1,4 +1,4 @@
-use Rattle.std.proofs.Common.{◌≡◌, length, Ok, Err, sym, ap, ◌∙◌, arith}
+use Rattle.std.proofs.Common.{length, Ok, sym, ap, ◌∙◌, arith}
 use Rattle.entries.specs.Tables.{cells_of}
 use Rattle.keeping.specs.Answering.{used_among}
 use Rattle.keeping.proofs.Asked.{list_rows}

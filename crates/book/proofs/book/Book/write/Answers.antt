@@ -1,4 +1,4 @@
-use Rattle.std.proofs.Common.{◌≡◌, ◌+◌, ◌≤◌, false, Ok, Err, sym, refl, ◌∙◌, subst, arith}
+use Rattle.std.proofs.Common.{◌+◌, ◌≤◌, false, Ok, Err, sym, refl, ◌∙◌, subst, arith}
 use Rattle.stores.specs.Meanings.{Appends}
 use Rattle.format.specs.Book.{blank, commit, updating, decide, newest_or}
 use Rattle.records.specs.Tabled.{Revised, revisions_held, cells_held}
