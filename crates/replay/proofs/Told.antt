@@ -38,9 +38,10 @@ sortless End e = refl
 moved : (src : Bytes) (q r : ℕ) (vs : List Value) → q ≡ r → TokensBetween src 0 vs q → TokensBetween src 0 vs r
 moved src q r vs e h = rw (sym e) h
 
--- what was found is told behind what is told
-pub found_told : (src : Bytes) (p : ℕ) (vs ws : List Value) (f : Found) (s : Sort) → TokensBetween src 0 vs p → next_token src p ≡ found_token src f → sort_of (kind_of f.token) ≡ Some s → ws ≡ vs ++ (values.Token s f.from f.to ∷ []) → TokensBetween src 0 ws f.to
-found_told src p vs ws f s told is sorted items =
-    let tells : TellsToken (next_token src p) (values.Token s f.from f.to) =
-    record { sort = s; sort_is = ap (λ t. sort_of t.kind) is ∙ sorted; value_is = rw is refl } in
-    rw items (moved src _ _ _ (ap (λ t. t.to) is) (one_more src 0 p vs _ told tells))
+-- what was found in the same bytes is told behind what is told
+pub found_told : (src s : Bytes) (p q : ℕ) (vs ws : List Value) (f : Found) (k : Sort) → s ≡ src → TokensBetween src 0 vs p → next_token s p ≡ found_token s f → sort_of (kind_of f.token) ≡ Some k → ws ≡ vs ++ (values.Token k f.from f.to ∷ []) → q ≡ f.to → TokensBetween src 0 ws q
+found_told src s p q vs ws f k same told found sorted items on =
+    let is : next_token src p ≡ found_token src f = rw (sym same) found in
+    let tells : TellsToken (next_token src p) (values.Token k f.from f.to) =
+    record { sort = k; sort_is = ap (λ t. sort_of t.kind) is ∙ sorted; value_is = rw is refl } in
+    rw on (rw items (moved src _ _ _ (ap (λ t. t.to) is) (one_more src 0 p vs _ told tells)))
