@@ -1,10 +1,10 @@
 // A dictionary that has to stand next, as behind the word `trailer`.
-ghost use Rattle.std.specs.Prelude.{◌≡◌, ◌+◌, ◌^◌, ◌<◌, ◌≤◌, length, drop, MatchResult};
+ghost use Rattle.std.specs.Prelude.{◌≡◌, ◌+◌, ◌^◌, ◌<◌, length, MatchResult};
 ghost use Rattle.format.specs.Bytes.{bad};
 ghost use Rattle.format.specs.Tokens.{token_at};
 ghost use Rattle.format.specs.Sections.{trailer_at};
 ghost use Rattle.objects.specs.Dictionaries.{Opening, Opened, OpenedAt};
-ghost use Rattle.objects.specs.Steps.{token_in};
+ghost use Rattle.objects.specs.Steps.{token_in, rest_of};
 
 use crate::later::later_fault;
 use crate::read::read_dictionary;
@@ -43,11 +43,11 @@ fn marked(at: Lexer<'_>) -> Result<Dictionary, Fault>
     Ok(Dictionary { mark, inside, end })
 }
 
-// The dictionary that has to stand next from `from` on, in bytes that start at the place `base` of the file.
+// The dictionary that has to stand next, in bytes that start at the place `base` of the file.
 // Its places count in the bytes; the place of a fault counts in the file.
-pub fn dictionary_at(base: usize, src: &[u8], from: usize) -> Result<Dictionary, Fault>
-    requires { (from ≤ length src.now) × (base + length src.now < 2 ^ 64) }
-    ensures { MatchResult result (OpenedAt base src.now from) (λ f. trailer_at (token_at (base + from) (drop from src.now)) ≡ bad f) }
+pub fn dictionary_at(base: usize, at: Lexer<'_>) -> Result<Dictionary, Fault>
+    requires { base + length at.src.now < 2 ^ 64 }
+    ensures { MatchResult result (OpenedAt base at.entry.src.now at.entry.place) (λ f. trailer_at (token_at (base + at.entry.place) (rest_of at.entry)) ≡ bad f) }
 {
-    marked(Lexer::new(src).to(from)).map_err(|fault| later_fault(base, fault))
+    marked(at).map_err(|fault| later_fault(base, fault))
 }

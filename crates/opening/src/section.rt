@@ -38,7 +38,7 @@ pub fn read_section(base: usize, src: &[u8], rows: &mut Rows) -> Result<Section,
     let subsections = read_subsections(view.to(start), rows)?;
     let word = view.to(subsections.end);
     let word_end = word.placed(exact(word.at, b"trailer"))?;
-    let dictionary = dictionary_at(base, src, word_end)?;
+    let dictionary = dictionary_at(base, view.at.to(word_end))?;
     let tail_start = view.at.to(dictionary.end).skip_space();
     // there is no `From` between `usize` and `u64`
     let end = view.to(tail_start).tail(base as u64)?;

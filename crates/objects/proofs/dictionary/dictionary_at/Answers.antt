@@ -9,4 +9,4 @@ map_err-requires c = search (rules, refused_within)
 pub returns : goal.returns
 returns c =
     let moved : Moved c.args.base c.marked.result c.map_err.result = search rules in
-    dictionary_moved _ _ _ _ _ (rw (c.to.ensures.src, c.new.ensures.src, c.to.ensures.place) at c.marked.ensures) moved
+    dictionary_moved _ _ _ _ _ c.marked.ensures moved

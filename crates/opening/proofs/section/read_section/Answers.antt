@@ -33,10 +33,13 @@ returns-in_err-word_end c =
     let word = line_there c.to-word.ensures.base (c.to-word.ensures.src ∙ c.new.ensures.src) c.to-word.ensures.place (line_read (exact (codes "trailer")) c.to-word.result.base c.to-word.result.at.src.now c.to-word.result.at.place _ c.exact.ensures _ c.in_err-word_end.ensures) in
     err_case _ _ _ c.in_err-word_end.field-0.0 c.from_residual-in_err-word_end.ensures.1 (word_bad c.args.base c.args.src.now c.in_ok-start.start start.is subs.0 q subs.1 _ word.is)
 
-pub dictionary_at-requires : goal.dictionary_at-requires
-dictionary_at-requires c =
+pub to-requires-2 : goal.to-requires-2
+to-requires-2 c =
     let word = line_there c.to-word.ensures.base (c.to-word.ensures.src ∙ c.new.ensures.src) c.to-word.ensures.place (line_read (exact (codes "trailer")) c.to-word.result.base c.to-word.result.at.src.now c.to-word.result.at.place _ c.exact.ensures _ c.in_ok-word_end.ensures) in
-    (word.within.1, c.requires.counts)
+    rw c.new.ensures.src word.within.1
+
+pub dictionary_at-requires : goal.dictionary_at-requires
+dictionary_at-requires c = rw (c.to-2.ensures.src ∙ c.new.ensures.src) c.requires.counts
 
 pub returns-in_err-dictionary : goal.returns-in_err-dictionary
 returns-in_err-dictionary c =
@@ -44,7 +47,7 @@ returns-in_err-dictionary c =
     let subs = seen_ok _ _ (rw (c.to.ensures.base, c.to.ensures.src ∙ c.new.ensures.src, c.to.ensures.place) at c.in_ok-subsections.ensures.is) in
     let q = c.in_ok-subsections.subsections.«end» in
     let word = line_there c.to-word.ensures.base (c.to-word.ensures.src ∙ c.new.ensures.src) c.to-word.ensures.place (line_read (exact (codes "trailer")) c.to-word.result.base c.to-word.result.at.src.now c.to-word.result.at.place _ c.exact.ensures _ c.in_ok-word_end.ensures) in
-    err_case _ _ _ c.in_err-dictionary.field-0.0 c.from_residual-in_err-dictionary.ensures.1 (trailer_bad c.args.base c.args.src.now c.in_ok-start.start start.is subs.0 q subs.1 c.in_ok-word_end.word_end word.is _ c.in_err-dictionary.ensures)
+    err_case _ _ _ c.in_err-dictionary.field-0.0 c.from_residual-in_err-dictionary.ensures.1 (trailer_bad c.args.base c.args.src.now c.in_ok-start.start start.is subs.0 q subs.1 c.in_ok-word_end.word_end word.is _ (rw (c.to-2.ensures.src ∙ c.new.ensures.src, c.to-2.ensures.place) at c.in_err-dictionary.ensures))
 
 pub returns-in_err-end : goal.returns-in_err-end
 returns-in_err-end c =
@@ -52,9 +55,9 @@ returns-in_err-end c =
     let subs = seen_ok _ _ (rw (c.to.ensures.base, c.to.ensures.src ∙ c.new.ensures.src, c.to.ensures.place) at c.in_ok-subsections.ensures.is) in
     let q = c.in_ok-subsections.subsections.«end» in
     let word = line_there c.to-word.ensures.base (c.to-word.ensures.src ∙ c.new.ensures.src) c.to-word.ensures.place (line_read (exact (codes "trailer")) c.to-word.result.base c.to-word.result.at.src.now c.to-word.result.at.place _ c.exact.ensures _ c.in_ok-word_end.ensures) in
-    let d = c.in_ok-dictionary.ensures in
-    let space = rw (c.to-2.ensures.src ∙ c.new.ensures.src, c.to-2.ensures.place) at c.skip_space-tail_start.ensures.is in
-    let e = rw (c.to-3.ensures.base, c.to-3.ensures.src ∙ c.new.ensures.src, c.to-3.ensures.place) at c.in_err-end.ensures.is in
+    let d = rw (c.to-2.ensures.src ∙ c.new.ensures.src, c.to-2.ensures.place) at c.in_ok-dictionary.ensures in
+    let space = rw (c.to-3.ensures.src ∙ c.new.ensures.src, c.to-3.ensures.place) at c.skip_space-tail_start.ensures.is in
+    let e = rw (c.to-4.ensures.base, c.to-4.ensures.src ∙ c.new.ensures.src, c.to-4.ensures.place) at c.in_err-end.ensures.is in
     err_case _ _ _ c.in_err-end.field-0.0 c.from_residual-in_err-end.ensures.1 (tail_bad c.args.base c.args.src.now c.in_ok-start.start start.is subs.0 q subs.1 c.in_ok-word_end.word_end word.is _ _ _ d.tree d.trailer space _ e)
 
 pub returns : goal.returns
@@ -63,9 +66,9 @@ returns c =
     let subs = seen_ok _ _ (rw (c.to.ensures.base, c.to.ensures.src ∙ c.new.ensures.src, c.to.ensures.place) at c.in_ok-subsections.ensures.is) in
     let q = c.in_ok-subsections.subsections.«end» in
     let word = line_there c.to-word.ensures.base (c.to-word.ensures.src ∙ c.new.ensures.src) c.to-word.ensures.place (line_read (exact (codes "trailer")) c.to-word.result.base c.to-word.result.at.src.now c.to-word.result.at.place _ c.exact.ensures _ c.in_ok-word_end.ensures) in
-    let d = c.in_ok-dictionary.ensures in
-    let space = rw (c.to-2.ensures.src ∙ c.new.ensures.src, c.to-2.ensures.place) at c.skip_space-tail_start.ensures.is in
-    let e = rw (c.to-3.ensures.base, c.to-3.ensures.src ∙ c.new.ensures.src, c.to-3.ensures.place) at c.in_ok-end.ensures in
+    let d = rw (c.to-2.ensures.src ∙ c.new.ensures.src, c.to-2.ensures.place) at c.in_ok-dictionary.ensures in
+    let space = rw (c.to-3.ensures.src ∙ c.new.ensures.src, c.to-3.ensures.place) at c.skip_space-tail_start.ensures.is in
+    let e = rw (c.to-4.ensures.base, c.to-4.ensures.src ∙ c.new.ensures.src, c.to-4.ensures.place) at c.in_ok-end.ensures in
     let l = behind_none (rows_held c.clear.new.self) _ _ _ _ c.clear.ensures subs.2 in
     record {
       tree = _;
@@ -78,6 +81,6 @@ returns c =
       closes = c.in_ok-dictionary.dictionary.«end»;
       trailer = d.inside;
       opens = d.laid.opens;
-      inside = omega (arith, d.laid.closes, c.skip_space-tail_start.ensures.low, c.to-2.ensures.place, e.within.0);
+      inside = omega (arith, d.laid.closes, c.skip_space-tail_start.ensures.low, c.to-3.ensures.place, e.within.0);
       within = e.within.1;
     }
