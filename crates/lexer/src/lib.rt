@@ -11,5 +11,6 @@ pub mod name;
 mod number;
 pub mod reader;
 mod reads;
+mod run;
 mod space;
 pub mod token;

@@ -1,5 +1,5 @@
 // Names, compared by the bytes that they stand for.
-ghost use Rattle.std.specs.Prelude.{◌≡◌, ◌+◌, ◌^◌, ◌<◌, ◌≤◌, ◌∷◌, length, drop, None, slice_index};
+ghost use Rattle.std.specs.Prelude.{◌≡◌, ◌+◌, ◌<◌, ◌≤◌, ◌∷◌, length, drop, None, slice_index};
 ghost use Rattle.std.specs.Iterator.{YieldsFirst, item_count};
 ghost use Rattle.format.specs.Bytes.{same};
 ghost use Rattle.format.specs.Names.{decode, plain};
@@ -7,6 +7,7 @@ ghost use Rattle.lexer.specs.Spelled.{hex_byte, spelled, checked};
 
 use crate::bytes::hex_digit;
 use crate::flaw::Flaw;
+use crate::run::Run;
 
 // The byte that two hex digits behind a `#` give, which is not 0.
 fn hex_byte(high: u8, low: u8) -> Option<u8>
@@ -31,22 +32,24 @@ fn escaped(run: &[u8], at: usize) -> Option<u8>
     }
 }
 
-// That each `#` in the regular bytes of a name, which start at the place `from`, gives a byte.
-pub(crate) fn check_name(run: &[u8], from: usize) -> Result<(), Flaw>
-    requires { from + length run.now < 2 ^ 64 }
-    ensures { result ≡ checked (decode plain from run.now) }
-{
-    // An escape is passed at once, so the places that are asked are not one apart.
-    let mut at = 0;
-    while at < run.len() {
-        if run[at] != b'#' {
-            at += 1;
-        } else {
-            escaped(run, at).ok_or(Flaw::BadName(from + at))?;
-            at += 3;
+impl Run<'_> {
+    // That each `#` in these regular bytes of a name gives a byte.
+    pub fn check_name(self) -> Result<(), Flaw>
+        ensures { result ≡ checked (decode plain self.entry.from self.entry.bytes.now) }
+    {
+        let run = self.bytes;
+        // An escape is passed at once, so the places that are asked are not one apart.
+        let mut at = 0;
+        while at < run.len() {
+            if run[at] != b'#' {
+                at += 1;
+            } else {
+                escaped(run, at).ok_or(Flaw::BadName(self.from + at))?;
+                at += 3;
+            }
         }
+        Ok(())
     }
-    Ok(())
 }
 
 // The first byte that a name stands for, and the place in it behind what gives that byte.

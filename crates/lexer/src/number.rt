@@ -7,6 +7,7 @@ ghost use Rattle.lexer.specs.Numerals.{number_shown, is_absent, is_minus, walk, 
 
 use crate::bytes::is_digit;
 use crate::flaw::Flaw;
+use crate::run::Run;
 
 // What regular bytes that start like a number are.
 #[derive(Clone, Copy)]
@@ -36,33 +37,6 @@ fn more_size(size: u32, b: u8) -> u32
     size.saturating_mul(10)
         .saturating_add(u32::from(b - b'0'))
         .min(2147483649)
-}
-
-// The size of the integer whose digits these are, at most 2147483649 for one past either bound; none for a real. They start at the place `from`.
-fn size_of_digits(digits: &[u8], from: usize) -> Result<Option<u32>, Flaw>
-    requires { from + length digits.now < 2 ^ 64 }
-    ensures { result ≡ walk false false 0 from digits.now }
-{
-    let mut period = false;
-    let mut digit = false;
-    let mut size = 0;
-    for (at, b) in digits.iter().enumerate() {
-        if is_digit(*b) {
-            digit = true;
-            size = more_size(size, *b);
-        } else if *b == b'.' && !period {
-            period = true;
-        } else {
-            return Err(Flaw::BadNumber(from + at));
-        }
-    }
-    if !digit {
-        Err(Flaw::BadNumber(from + digits.len()))
-    } else if period {
-        Ok(None)
-    } else {
-        Ok(Some(size))
-    }
 }
 
 // The integer of a size, behind a minus or not.
@@ -95,27 +69,53 @@ fn with_sign(sign: Sign, size: u32) -> Result<Numeral, Flaw>
     }
 }
 
-// The number behind a sign, or without one: its bytes start at the place `from`.
-fn part_of(sign: Sign, digits: &[u8], from: usize) -> Result<Numeral, Flaw>
-    requires { from + length digits.now < 2 ^ 64 }
-    ensures { (w : Bytes) → number_shown w result ≡ numeral_kind w (unsigned_part (is_absent sign) (is_minus sign) from digits.now) }
-{
-    let size = size_of_digits(digits, from)?;
-    match size {
-        Some(n) => with_sign(sign, n),
-        None => Ok(Numeral::Fraction),
+impl Run<'_> {
+    // The size of the integer whose digits these are, at most 2147483649 for one past either bound; none for a real.
+    fn size(self) -> Result<Option<u32>, Flaw>
+        ensures { result ≡ walk false false 0 self.entry.from self.entry.bytes.now }
+    {
+        let mut period = false;
+        let mut digit = false;
+        let mut size = 0;
+        for (at, b) in self.bytes.iter().enumerate() {
+            if is_digit(*b) {
+                digit = true;
+                size = more_size(size, *b);
+            } else if *b == b'.' && !period {
+                period = true;
+            } else {
+                return Err(Flaw::BadNumber(self.from + at));
+            }
+        }
+        if !digit {
+            Err(Flaw::BadNumber(self.from + self.bytes.len()))
+        } else if period {
+            Ok(None)
+        } else {
+            Ok(Some(size))
+        }
     }
-}
 
-// The number that regular bytes are, which start at the place `from` like one.
-pub fn numeral_of(run: &[u8], from: usize) -> Result<Numeral, Flaw>
-    requires { from + length run.now < 2 ^ 64 }
-    ensures { number_shown run.now result ≡ numeral_kind run.now (numeral from run.now) }
-{
-    match run {
-        [] => Err(Flaw::BadNumber(from)),
-        [b'-', digits @ ..] => part_of(Sign::Minus, digits, from + 1),
-        [b'+', digits @ ..] => part_of(Sign::Plus, digits, from + 1),
-        _ => part_of(Sign::Absent, run, from),
+    // The number that these bytes are behind a sign, or without one.
+    fn part(self, sign: Sign) -> Result<Numeral, Flaw>
+        ensures { (w : Bytes) → number_shown w result ≡ numeral_kind w (unsigned_part (is_absent sign) (is_minus sign) self.entry.from self.entry.bytes.now) }
+    {
+        let size = self.size()?;
+        match size {
+            Some(n) => with_sign(sign, n),
+            None => Ok(Numeral::Fraction),
+        }
+    }
+
+    // The number that these regular bytes are, which start like one.
+    pub fn numeral(self) -> Result<Numeral, Flaw>
+        ensures { number_shown self.entry.bytes.now result ≡ numeral_kind self.entry.bytes.now (numeral self.entry.from self.entry.bytes.now) }
+    {
+        match self.bytes {
+            [] => Err(Flaw::BadNumber(self.from)),
+            [b'-', ..] => self.behind().part(Sign::Minus),
+            [b'+', ..] => self.behind().part(Sign::Plus),
+            _ => self.part(Sign::Absent),
+        }
     }
 }

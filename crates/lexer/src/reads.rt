@@ -1,5 +1,6 @@
 // The token that starts at a place.
 ghost use Rattle.std.specs.Prelude.{◌≡◌, ◌+◌, ◌≤◌, length, drop};
+ghost use Rattle.std.specs.List.{between};
 ghost use Rattle.format.specs.Bytes.{is_regular, span, up_to};
 ghost use Rattle.format.specs.Numbers.{starts_number};
 ghost use Rattle.format.specs.Tokens.{after_less, after_greater, marked, start_at};
@@ -9,9 +10,9 @@ ghost use Rattle.lexer.specs.Views.{Reads, Takes};
 use crate::bytes::is_regular;
 use crate::flaw::Flaw;
 use crate::head::Head;
-use crate::name::check_name;
-use crate::number::{Numeral, numeral_of};
+use crate::number::Numeral;
 use crate::reader::Lexer;
+use crate::run::Run;
 use crate::token::Token;
 
 #[tactic(auto, using(std::proofs::lemmas::Bool::Decides::nat_tests), unfolding(format::specs::Bytes::is_digit, format::specs::Numbers::starts_number))]
@@ -35,16 +36,27 @@ impl<'a> Head<'a> {
         behind.run_end()
     }
 
+    // The bytes from one place to another.
+    fn cut(self, from: usize, to: usize) -> Run<'a>
+        requires { (from ≤ to) × (to ≤ length self.src.now) }
+        ensures bytes { result.bytes.now ≡ between from to self.entry.src.now }
+        ensures place { result.from ≡ from }
+    {
+        Run {
+            bytes: &self.src[from..to],
+            from,
+        }
+    }
+
     // A name, whose `/` is the first byte.
     fn name(self) -> Result<(Token<'a>, usize), Flaw>
         ensures is { ReadAs name self.entry result }
         ensures takes { Takes self.entry.src.now self.entry.at result }
     {
-        let from = self.at + 1;
         let to = self.run_end();
-        let name = &self.src[from..to];
-        check_name(name, from)?;
-        Ok((Token::Name(name), to))
+        let name = self.cut(self.at + 1, to);
+        name.check_name()?;
+        Ok((Token::Name(name.bytes), to))
     }
 
     // A literal string, whose `(` is the first byte.
@@ -89,15 +101,15 @@ impl<'a> Head<'a> {
         ensures takes { Takes self.entry.src.now self.entry.at result }
     {
         let to = self.run_end();
-        let run = &self.src[self.at..to];
+        let run = self.cut(self.at, to);
         if !starts_number(self.src[self.at]) {
-            return Ok((Token::Word(run), to));
+            return Ok((Token::Word(run.bytes), to));
         }
-        let number = numeral_of(run, self.at)?;
+        let number = run.numeral()?;
         match number {
             Numeral::Unsigned(n) => Ok((Token::Unsigned(n), to)),
             Numeral::Signed(z) => Ok((Token::Signed(z), to)),
-            Numeral::Fraction => Ok((Token::Real(run), to)),
+            Numeral::Fraction => Ok((Token::Real(run.bytes), to)),
         }
     }
 

@@ -1,5 +1,5 @@
 -- The parts of a stream, at a place of the bytes.
-use Rattle.std.proofs.Common.{◌≡◌, ℕ, suc, ◌+◌, ◌-◌, ◌<◌, ◌≤◌, true, false, leb, List, [], ◌∷◌, length, get_or, drop, Ok, Err, Result, sym, refl, ap, ◌∙◌, add-one, arith, length-drop, drop-cons, drop-drop, le-leb}
+use Rattle.std.proofs.Common.{◌≡◌, ℕ, suc, ◌+◌, ◌-◌, ◌<◌, ◌≤◌, true, false, leb, List, [], ◌∷◌, length, get_or, drop, Ok, Err, Result, sym, refl, ◌∙◌, add-one, arith, length-drop, drop-drop, le-leb}
 use borrow.Author.Tests.{lt-leb}
 use Rattle.std.specs.Result.{result_unwrap_or}
 use Rattle.std.proofs.lemmas.List.{at_drop_all}
@@ -12,19 +12,9 @@ use Rattle.format.specs.Frames.{stream_line, maybe_eol, end_stream, stream_data}
 use Rattle.lexer.specs.declared.line.Lack.{Lack}
 use Rattle.lexer.specs.declared.line.Lack.TheVariants.{Short, Misfit}
 use Rattle.lexer.specs.Endings.{line_shown}
+use Rattle.lexer.proofs.Places.{at_place, at_two_more}
 
--- a byte stands at a place, and the others behind it
-at_place : {Y : Type 0} (F : List ℕ → Y) (src : List ℕ) (p : ℕ) → p < length src → F (drop p src) ≡ F (get_or src p 0 ∷ drop (suc p) src)
-at_place F src p h = ap F (drop-cons src p 0 h)
-
-two_places : {Y : Type 0} (F : List ℕ → Y) (src : List ℕ) (p : ℕ) → p + 1 < length src → F (drop p src) ≡ F (get_or src p 0 ∷ get_or src (p + 1) 0 ∷ drop (p + 2) src)
-two_places F src p h =
-    let l : p < length src = omega arith in
-    let m : suc p < length src = omega arith in
-    let i : p + 1 ≡ suc p = omega arith in
-    let j : p + 2 ≡ suc (suc p) = omega arith in
-    rw (i, j) (at_place F src p l ∙ at_place (λ ys. F (get_or src p 0 ∷ ys)) src (suc p) m)
-
+-- the last byte
 one_place : {Y : Type 0} (F : List ℕ → Y) (src : List ℕ) (p : ℕ) → p + 1 ≡ length src → F (drop p src) ≡ F (get_or src p 0 ∷ [])
 one_place F src p h = let l : p < length src = omega arith in let m : length src ≤ suc p = omega arith in at_place F src p l ∙ at_drop_all (λ ys. F (get_or src p 0 ∷ ys)) src (suc p) m
 
@@ -57,7 +47,7 @@ module _ (src : Bytes) (p : ℕ) where
       let b = eq-eqb _ _ f in
       let c = eq-eqb _ _ g in
       let j : suc (suc p) ≡ p + 2 = omega arith in
-      sym (two_places (stream_line p) src p h ∙ rw (a, b, c, stream_line, j) refl)
+      sym (at_two_more (stream_line p) src p (p + 1) (p + 2) refl refl h ∙ rw (a, b, c, stream_line, j) refl)
 
   -- a CR alone
   pub line_cr : (get_or src p 0 ≡ 10 → ⊥) → get_or src p 0 ≡ 13 → p + 1 < length src → (get_or src (p + 1) 0 ≡ 10 → ⊥) → bad (object_fault BadFrame p) ≡ stream_line p (drop p src)
@@ -66,7 +56,7 @@ module _ (src : Bytes) (p : ℕ) where
       let a = ne_eqb _ _ e in
       let b = eq-eqb _ _ f in
       let c = ne_eqb _ _ g in
-      sym (two_places (stream_line p) src p h ∙ rw (a, b, c, stream_line) refl)
+      sym (at_two_more (stream_line p) src p (p + 1) (p + 2) refl refl h ∙ rw (a, b, c, stream_line) refl)
 
   -- an optional end of line at a place, and what is behind it
   abbrev pub EolEnds : ℕ → Type 0

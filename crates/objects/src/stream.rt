@@ -15,25 +15,14 @@ pub fn stream_line(at: Lexer<'_>) -> Result<usize, Fault>
     ensures is { placed at.entry.src.now result ≡ stream_line at.entry.place (rest_of at.entry) }
     ensures within { IfOk result (λ q. (at.entry.place < q) × (q ≤ length at.entry.src.now)) }
 {
-    let src = at.src;
     let from = at.place;
-    if from == src.len() {
-        return Err(Fault::met(Reason::BytesEnd, Layer::Object, from));
+    match &at.src[from..] {
+        [] => Err(Fault::met(Reason::BytesEnd, Layer::Object, from)),
+        [b'\n', ..] => Ok(from + 1),
+        [b'\r'] => Err(Fault::met(Reason::BytesEnd, Layer::Object, from + 1)),
+        [b'\r', b'\n', ..] => Ok(from + 2),
+        _ => Err(Fault::met(Reason::BadFrame, Layer::Object, from)),
     }
-    let b = src[from];
-    if b == b'\n' {
-        return Ok(from + 1);
-    }
-    if b != b'\r' {
-        return Err(Fault::met(Reason::BadFrame, Layer::Object, from));
-    }
-    if from + 1 == src.len() {
-        return Err(Fault::met(Reason::BytesEnd, Layer::Object, from + 1));
-    }
-    if src[from + 1] == b'\n' {
-        return Ok(from + 2);
-    }
-    Err(Fault::met(Reason::BadFrame, Layer::Object, from))
 }
 
 // Behind an end of line, if one stands there.

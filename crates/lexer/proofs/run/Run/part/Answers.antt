@@ -1,7 +1,7 @@
 use Rattle.std.proofs.Common.{◌∙◌}
 use Rattle.lexer.proofs.Cases.{handed}
 use Rattle.lexer.proofs.Numerals.{walk_meets, sized}
-use Rattle.lexer.proofs.number.part_of.Goals as goal
+use Rattle.lexer.proofs.run.Run.part.Goals as goal
 
 pub returns-in_err-size : goal.returns-in_err-size
 returns-in_err-size c =

@@ -3,8 +3,8 @@ use Rattle.std.proofs.lemmas.Bool.{ne_eqb, and_left, and_right}
 use Rattle.std.proofs.lemmas.Bool.Decides.{nat_tests}
 use Rattle.format.specs.Bytes.{is_digit}
 use Rattle.lexer.proofs.Numerals.{walk_digit, walk_period, walk_stops, walk_ends, walk_on, finish_at}
-use Rattle.lexer.proofs.number.size_of_digits.Goals as goal
-use Rattle.lexer.proofs.number.size_of_digits.Goals.{then-is_digit, else-is_digit+then-b-eq46+then-not-period, else-b-eq46-via-then-b-eq46+else-not-period, else-b-eq46-via-else-b-eq46}
+use Rattle.lexer.proofs.run.Run.size.Goals as goal
+use Rattle.lexer.proofs.run.Run.size.Goals.{then-is_digit, else-is_digit+then-b-eq46+then-not-period, else-b-eq46-via-then-b-eq46+else-not-period, else-b-eq46-via-else-b-eq46}
 
 pub more_size-size-requires : goal.more_size-size-requires
 unfolding is_digit
@@ -25,7 +25,7 @@ loop-at-preserved c =
 
 pub returns-else-b-eq46 : goal.returns-else-b-eq46
 returns-else-b-eq46 c =
-    let no : (eqb (get_or c.args.digits.now c.loop-at.at 0) 46 && not c.loop-at.period) ≡ false =
+    let no : (eqb (get_or c.args.self.bytes.now c.loop-at.at 0) 46 && not c.loop-at.period) ≡ false =
     elim c.else-b-eq46.branch [
       | else-b-eq46-via-then-b-eq46+else-not-period w ↦ and_right _ _ (ap not w.if-not-period.false)
       | else-b-eq46-via-else-b-eq46 w ↦ and_left _ _ (ne_eqb _ _ w.if-b-eq46.false)
@@ -34,7 +34,7 @@ returns-else-b-eq46 c =
 
 pub returns-then-not-digit : goal.returns-then-not-digit
 returns-then-not-digit c =
-    let e : c.args.from + length c.args.digits.now ≡ c.args.from + c.loop-at.at = omega arith in
+    let e : c.args.self.from + length c.args.self.bytes.now ≡ c.args.self.from + c.loop-at.at = omega arith in
     rw e (finish_at _ _ c.loop-at.period false _ _ refl c.if-not-digit.true (walk_ends _ _ _ _ _ _ (omega arith) c.loop-at.invariant.1))
 
 pub returns-then-period : goal.returns-then-period

@@ -1,7 +1,7 @@
 use Rattle.std.proofs.Common.{◌+◌, ◌<◌, length, arith}
 use Rattle.lexer.proofs.Cases.{handed}
 use Rattle.lexer.proofs.Names.{wrong_ends, wrong_plain, is_far, checked_given, checked_left, ok_or_some, ok_or_none}
-use Rattle.lexer.proofs.name.check_name.Goals as goal
+use Rattle.lexer.proofs.run.Run.check_name.Goals as goal
 
 pub loop-at-preserved-then-run-at-ne35 : goal.loop-at-preserved-then-run-at-ne35
 loop-at-preserved-then-run-at-ne35 c = (omega arith, wrong_plain _ _ _ c.loop-at-test.true c.if-run-at-ne35.true c.loop-at.invariant.1)
@@ -9,7 +9,7 @@ loop-at-preserved-then-run-at-ne35 c = (omega arith, wrong_plain _ _ _ c.loop-at
 pub loop-at-preserved : goal.loop-at-preserved
 loop-at-preserved c =
     let s = ok_or_some _ _ _ c.in_ok-ok_or.ensures.value in
-    let l : c.loop-at.at + 2 < length c.args.run.now = is_far _ _ c.loop-at-test.true c.if-run-at-ne35.false _ c.escaped.ensures.far c.escaped.ensures.near _ s in
+    let l : c.loop-at.at + 2 < length c.args.self.bytes.now = is_far _ _ c.loop-at-test.true c.if-run-at-ne35.false _ c.escaped.ensures.far c.escaped.ensures.near _ s in
     (omega arith, checked_given _ _ c.loop-at-test.true c.if-run-at-ne35.false _ c.escaped.ensures.far c.escaped.ensures.near _ _ _ s c.loop-at.invariant.1)
 
 pub returns-in_err-ok_or : goal.returns-in_err-ok_or
