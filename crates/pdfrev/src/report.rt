@@ -18,7 +18,8 @@ pub fn accepted<S: Store, W: Write>(book: &Book<S>, out: &mut W) -> Result<(), F
     Ok(())
 }
 
-// Writes the body of the number n in revision k, and answers its generation.
+// Writes the body of the number n in revision k, and answers its generation. Here, in `diff` and in `table::list`, memory, book and `out` go in beside the
+// numbers: a struct of the three would be made at three arms of `answer`, each time for one call.
 pub fn show<S: Store, W: Write>(
     heap: Global,
     book: &Book<S>,

@@ -1,5 +1,5 @@
 // Printing an update as a script.
-ghost use Rattle.std.specs.Prelude.{◌≡◌, ◌^◌, ◌<◌, [], ◌∷◌, ◌++◌, IfOk, Ok, OnOk};
+ghost use Rattle.std.specs.Prelude.{◌≡◌, [], ◌∷◌, ◌++◌, IfOk, Ok, OnOk};
 ghost use Rattle.format.specs.Writing.{decimal};
 ghost use Rattle.scripts.specs.Reads.{update_of};
 ghost use Rattle.scripts.specs.Rows.{change_of};
@@ -9,26 +9,25 @@ use crate::change::Change;
 use crate::dots::add_text;
 use crate::script::Script;
 use std::alloc::{AllocError, Global};
+use writer::ten_digits::TenDigits;
 
 // Appends a number in decimal. `write!` into a Vec fails by an `io::Error`, and all that can fail here is to get memory.
-fn add_decimal(out: &mut Vec<u8>, n: u64) -> Result<(), AllocError>
-    requires { n < 10 ^ 10 }
-    ensures { OnOk result (out.new.items ≡ out.old.items ++ decimal n) }
+fn add_decimal(out: &mut Vec<u8>, n: TenDigits) -> Result<(), AllocError>
+    ensures { OnOk result (out.new.items ≡ out.old.items ++ decimal n.value) }
 {
-    if n < 10 {
+    if n.value < 10 {
         // `as`: what is cast is below 10, and `u8::try_from` would have an answer to what cannot be.
-        out.push(b'0' + n as u8)?;
+        out.push(b'0' + n.value as u8)?;
         return Ok(());
     }
-    add_decimal(out, n / 10)?;
-    out.push(b'0' + (n % 10) as u8)?;
+    add_decimal(out, n.tens())?;
+    out.push(b'0' + (n.value % 10) as u8)?;
     Ok(())
 }
 
 // Appends a line of a word and a number.
-fn add_head(out: &mut Vec<u8>, word: &[u8], n: u64) -> Result<(), AllocError>
-    requires { n < 10 ^ 10 }
-    ensures { OnOk result (out.new.items ≡ out.old.items ++ (word.now ++ (decimal n ++ (10 ∷ [])))) }
+fn add_head(out: &mut Vec<u8>, word: &[u8], n: TenDigits) -> Result<(), AllocError>
+    ensures { OnOk result (out.new.items ≡ out.old.items ++ (word.now ++ (decimal n.value ++ (10 ∷ [])))) }
 {
     out.extend_from_slice(word)?;
     add_decimal(out, n)?;
@@ -37,9 +36,8 @@ fn add_head(out: &mut Vec<u8>, word: &[u8], n: u64) -> Result<(), AllocError>
 }
 
 // Appends a change.
-fn add_change(out: &mut Vec<u8>, number: u64, change: &Change) -> Result<(), AllocError>
-    requires { number < 10 ^ 10 }
-    ensures { OnOk result (out.new.items ≡ out.old.items ++ change_bytes number (change_of change.now)) }
+fn add_change(out: &mut Vec<u8>, number: TenDigits, change: &Change) -> Result<(), AllocError>
+    ensures { OnOk result (out.new.items ≡ out.old.items ++ change_bytes number.value (change_of change.now)) }
 {
     match change {
         Change::Removed => {
@@ -62,7 +60,7 @@ pub fn print(heap: Global, script: &Script) -> Result<Vec<u8>, AllocError>
 {
     let mut out = Vec::new(heap);
     for (number, change) in &script.changes {
-        add_change(&mut out, *number, change)?;
+        add_change(&mut out, TenDigits { value: *number }, change)?;
     }
     Ok(out)
 }

@@ -13,5 +13,6 @@ pub mod parts;
 mod plan;
 mod runs;
 mod table;
+pub mod ten_digits;
 mod trailer;
 pub mod update;

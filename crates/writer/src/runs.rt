@@ -9,6 +9,7 @@ ghost use Rattle.writer.specs.Sizes.{most_numbers};
 use crate::draft::Draft;
 use crate::listed::{entry_of, run_end};
 use crate::plan::{Plan, Planned};
+use crate::ten_digits::TenDigits;
 
 // The entries of an unbroken run from a number up to the number behind it, by number, since an entry depends on the numbers behind its own.
 fn write_entries(draft: &mut Draft, plan: &[Planned], first: usize, end: usize)
@@ -35,7 +36,7 @@ fn write_run(draft: &mut Draft, plan: &[Planned], first: usize) -> usize
     ensures within { result ≤ length plan.now }
 {
     let end = run_end(plan, first);
-    draft.run_line(first as u32, (end - first) as u64);
+    draft.run_line(first as u32, TenDigits::from((end - first) as u32));
     write_entries(draft, plan, first, end);
     end
 }

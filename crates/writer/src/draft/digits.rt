@@ -1,9 +1,10 @@
 // Numbers in decimal, digit by digit: `write!` may fail for want of memory, and an append to a draft never does.
-ghost use Rattle.std.specs.Prelude.{◌≡◌, ◌+◌, ◌%◌, ◌^◌, ◌<◌, [], ◌++◌, length};
+ghost use Rattle.std.specs.Prelude.{◌≡◌, ◌+◌, ◌%◌, [], ◌++◌, length};
 ghost use Rattle.format.specs.Writing.{decimal, padded};
 ghost use Rattle.writer.specs.Drafts.{Adds, Room};
 
 use super::Draft;
+use crate::ten_digits::TenDigits;
 
 // The last digit of a number, as a byte. Here and in `decimal`, `as` is proved to lose nothing, and `try_from` would answer an error that never comes.
 fn last_digit(n: u64) -> u8
@@ -13,26 +14,24 @@ fn last_digit(n: u64) -> u8
 }
 
 impl Draft {
-    // A number below 10,000,000,000 in decimal.
-    pub fn decimal(&mut self, n: u64)
-        requires small { n < 10 ^ 10 }
-        requires room { Room self.old (length (decimal n)) }
-        ensures { Adds self.old (decimal n) self.new }
+    // A number in decimal.
+    pub fn decimal(&mut self, n: TenDigits)
+        requires { Room self.old (length (decimal n.value)) }
+        ensures { Adds self.old (decimal n.value) self.new }
     {
-        if n < 10 {
-            self.byte(b'0' + n as u8);
+        if n.value < 10 {
+            self.byte(b'0' + n.value as u8);
         } else {
-            self.decimal(n / 10);
-            self.byte(last_digit(n));
+            self.decimal(n.tens());
+            self.byte(last_digit(n.value));
         }
     }
 
-    // A number below 10,000,000,000 in decimal, between bytes.
+    // A number in decimal, between bytes.
     #[tactic(auto, using(crate::proofs::Joined::adds_then))]
-    pub fn number(&mut self, before: &[u8], n: u64, after: &[u8])
-        requires small { n < 10 ^ 10 }
-        requires room { Room self.old (length before.now + length (decimal n) + length after.now) }
-        ensures { Adds self.old (before.now ++ (decimal n ++ after.now)) self.new }
+    pub fn number(&mut self, before: &[u8], n: TenDigits, after: &[u8])
+        requires { Room self.old (length before.now + length (decimal n.value) + length after.now) }
+        ensures { Adds self.old (before.now ++ (decimal n.value ++ after.now)) self.new }
     {
         self.text(before);
         self.decimal(n);

@@ -4,6 +4,7 @@ ghost use Rattle.format.specs.Writing.{framed_bytes};
 ghost use Rattle.writer.specs.Drafts.{Adds, Room};
 
 use super::Draft;
+use crate::ten_digits::TenDigits;
 
 impl Draft {
     // An object: its number, its generation, and its body on lines of its own.
@@ -12,8 +13,8 @@ impl Draft {
         requires { Room self.old (length (framed_bytes number generation body.now)) }
         ensures { Adds self.old (framed_bytes number generation body.now) self.new }
     {
-        self.number(b"", u64::from(number), b" ");
-        self.number(b"", u64::from(generation), b" obj\n");
+        self.number(b"", TenDigits::from(number), b" ");
+        self.number(b"", TenDigits::from(generation), b" obj\n");
         self.text(body);
         self.object_end();
     }

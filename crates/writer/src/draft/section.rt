@@ -6,6 +6,7 @@ ghost use Rattle.writer.specs.Pieces.{close_bytes, line_bytes, pair_bytes, size_
 
 use super::Draft;
 use crate::entry::Entry;
+use crate::ten_digits::TenDigits;
 
 impl Draft {
     // The line above a section's runs.
@@ -70,23 +71,26 @@ impl Draft {
 
     // The line above a run: its first number, and how many there are.
     #[tactic(auto, using(crate::proofs::Lengths::line_length, crate::proofs::Lengths::spaced_length))]
-    pub fn run_line(&mut self, first: u32, count: u64)
-        requires small { count < 10 ^ 10 }
-        requires room { Room self.old (length (line_bytes first count)) }
-        ensures { Adds self.old (line_bytes first count) self.new }
+    pub fn run_line(&mut self, first: u32, count: TenDigits)
+        requires { Room self.old (length (line_bytes first count.value)) }
+        ensures { Adds self.old (line_bytes first count.value) self.new }
     {
-        self.number(b"", u64::from(first), b" ");
+        self.number(b"", TenDigits::from(first), b" ");
         self.number(b"", count, b"\n");
     }
 
-    // A run: its line and its entries. `usize` has no `From`: `as` is proved to lose nothing.
+    // A run: its line and its entries. That ten digits can say how many they are is asked here, since no slice's type bounds its length.
+    // `usize` has no `From`: `as` is proved to lose nothing.
     #[tactic(auto, using(crate::proofs::Lengths::run_of_length))]
     pub fn run(&mut self, first: u32, all: &[Entry])
         requires small { length all.now < 10 ^ 10 }
         requires room { Room self.old (length (run_on (first, slots_of all.now) [])) }
         ensures { Adds self.old (run_on (first, slots_of all.now) []) self.new }
     {
-        self.run_line(first, all.len() as u64);
+        let count = TenDigits {
+            value: all.len() as u64,
+        };
+        self.run_line(first, count);
         self.entries(all);
     }
 
@@ -116,25 +120,23 @@ impl Draft {
         requires { Room self.old (length (size_bytes size)) }
         ensures { Adds self.old (size_bytes size) self.new }
     {
-        self.number(b"/Size ", u64::from(size), b"\n");
+        self.number(b"/Size ", TenDigits::from(size), b"\n");
     }
 
     // A trailer's Prev: where the section before starts.
     #[tactic(auto, using(crate::proofs::Lengths::prev_length), unfolding(format::specs::Writing::prev_bytes))]
-    pub fn prev(&mut self, offset: u64)
-        requires small { offset < 10 ^ 10 }
-        requires room { Room self.old (length (prev_bytes (Some offset))) }
-        ensures { Adds self.old (prev_bytes (Some offset)) self.new }
+    pub fn prev(&mut self, offset: TenDigits)
+        requires { Room self.old (length (prev_bytes (Some offset.value))) }
+        ensures { Adds self.old (prev_bytes (Some offset.value)) self.new }
     {
         self.number(b"/Prev ", offset, b"\n");
     }
 
     // The end of a section that starts at an offset.
     #[tactic(auto, using(crate::proofs::Lengths::close_length), unfolding(crate::specs::Pieces::close_bytes))]
-    pub fn close(&mut self, offset: u64)
-        requires small { offset < 10 ^ 10 }
-        requires room { Room self.old (length (close_bytes offset)) }
-        ensures { Adds self.old (close_bytes offset) self.new }
+    pub fn close(&mut self, offset: TenDigits)
+        requires { Room self.old (length (close_bytes offset.value)) }
+        ensures { Adds self.old (close_bytes offset.value) self.new }
     {
         self.number(b">>\nstartxref\n", offset, b"\n%%EOF\n");
     }

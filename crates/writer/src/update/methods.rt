@@ -13,6 +13,7 @@ use crate::draft::Draft;
 use crate::held::Held;
 use crate::newest::Newest;
 use crate::plan::Plan;
+use crate::ten_digits::TenDigits;
 use std::alloc::{AllocError, Global};
 
 impl Writer {
@@ -26,6 +27,7 @@ impl Writer {
     }
 
     // Writes an update behind the newest revision of a file. It answers how many bytes the objects are: the section stands behind them.
+    // `usize` has no `From`: `as` is proved to lose nothing.
     pub fn write(&mut self, held: &Held, newest: &Newest) -> usize
         ensures { (file : Bytes) (v : Revision) → TableOf file newest.now.cells.now v → v.offset ≡ newest.now.offset → ReadAs newest.now.window.now newest.now.inside v.trailer → (bytes_of self.new ≡ update_bytes newest.now.len v (update_of held.now)) × (result ≡ length (update_objects newest.now.len v (update_of held.now))) }
     {
@@ -33,7 +35,10 @@ impl Writer {
         let old = newest.cells.len();
         self.write_objects(newest, held, old + held.new_numbers(old));
         let objects = self.len();
-        self.write_section(newest, newest.len + objects);
+        let at = TenDigits {
+            value: (newest.len + objects) as u64,
+        };
+        self.write_section(newest, at);
         objects
     }
 

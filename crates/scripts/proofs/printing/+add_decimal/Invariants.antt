@@ -1,4 +1,4 @@
 use Rattle.scripts.proofs.printing.+add_decimal.Given as goal
 
 abbrev pub decreases-add_decimal : goal.decreases-add_decimal
-decreases-add_decimal l = l.n
+decreases-add_decimal l = l.n.value

@@ -11,4 +11,4 @@ returns-clause-adds c =
     let fs = front (listed_at c.args.plan.now c.args.first) in
     let k = c.run_end-end.ensures.is in
     let q : c.run_end-end.result - c.args.first ≡ length fs = omega arith in
-    adds_as (adds_then c.run_line.ensures c.write_entries.ensures) (ap (λ n. line_bytes c.args.first n ++ slots_on fs []) q ∙ run_parts c.args.first fs)
+    adds_as (adds_then c.run_line.ensures c.write_entries.ensures) (ap (λ n. line_bytes c.args.first n ++ slots_on fs []) (c.from.ensures ∙ q) ∙ run_parts c.args.first fs)

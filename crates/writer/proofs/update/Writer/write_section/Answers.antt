@@ -11,16 +11,16 @@ use Rattle.writer.proofs.update.Writer.write_section.Goals as goal
 
 pub returns : goal.returns
 returns c = λ es h.
-    let P : ℕ → Type 0 = λ n. Adds c.copy_entries.new.draft (size_bytes n ++ (prev_bytes (Some c.args.newest.now.offset) ++ close_bytes c.args.at)) c.write_tail.new.draft in
+    let P : ℕ → Type 0 = λ n. Adds c.copy_entries.new.draft (size_bytes n ++ (prev_bytes (Some c.args.newest.now.offset) ++ close_bytes c.args.at.value)) c.write_tail.new.draft in
     adds_as
     (adds_then c.section_line.ensures
     (adds_then c.write_runs.ensures.adds
     (adds_then c.trailer_lines.ensures
     (adds_then (c.copy_entries.ensures.adds es h) (subst P c.len-size.ensures c.write_tail.ensures)))))
-    (sym (section_parts c.args.at (runs 0 (listed_at (rows_of c.args.self.now.plan) 0)) es (plan_count c.args.self.now.plan) (Some c.args.newest.now.offset)))
+    (sym (section_parts c.args.at.value (runs 0 (listed_at (rows_of c.args.self.now.plan) 0)) es (plan_count c.args.self.now.plan) (Some c.args.newest.now.offset)))
 
-pub write_tail-requires-clause-room : goal.write_tail-requires-clause-room
-write_tail-requires-clause-room c =
+pub write_tail-requires : goal.write_tail-requires
+write_tail-requires c =
     let y = read_some c.args.newest.now.window.now c.args.newest.now.inside c.args.newest.now.readable in
     let a = c.section_line.ensures in
     let b = c.write_runs.ensures in
@@ -36,7 +36,7 @@ write_tail-requires-clause-room c =
     let s = c.copy_entries.ensures.grown in
     let w = c.args.newest.now.narrow in
     let o = c.args.newest.now.placed in
-    let m = c.requires.room in
+    let m = c.requires in
     omega arith
 
 pub invariant_of-self : goal.invariant_of-self
