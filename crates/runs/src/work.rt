@@ -13,6 +13,7 @@ use std::alloc::Global;
 use stores::store::Store;
 
 // Makes every call of the list, the first first, and puts each answer behind the one before.
+// That there is room for the answers is a clause, here and in `work_with`: a struct of calls and memory would be made for this call alone.
 fn make_calls<S: Store>(
     book: &mut Book<S>,
     slip: &mut Slip,
