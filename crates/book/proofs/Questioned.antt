@@ -1,6 +1,6 @@
 -- What a book's rows and cells answer to its questions.
-use Rattle.std.proofs.Common.{◌≡◌, ℕ, ◌+◌, ◌-◌, ◌<◌, ◌≤◌, true, false, cond, not, leb, List, ◌∷◌, length, get_or, Some, None, Ok, Err, Option, count_by, ok_or, refl, ap, ◌∙◌, ⊎_elim, arith}
-use Rattle.std.proofs.lemmas.List.{get_or_default}
+use Rattle.std.proofs.Common.{◌≡◌, ℕ, ◌+◌, ◌-◌, ◌<◌, ◌≤◌, true, false, cond, not, leb, List, ◌∷◌, length, drop, get_or, Some, None, Ok, Err, Option, count_by, ok_or, sym, refl, ap, ◌∙◌, ⊎_elim, arith, length-drop, length-take}
+use Rattle.std.proofs.lemmas.List.{get_or_default, get_or-drop, get_or-take}
 use Rattle.std.proofs.lemmas.List.Recursion.{is_count_by}
 use Rattle.std.proofs.lemmas.Bool.{cases_lt, le-leb, lt-leb}
 use Rattle.faults.specs.declared.fault.Fault.{Fault}
@@ -17,9 +17,10 @@ use Rattle.entries.specs.Cells.{part}
 use Rattle.entries.specs.declared.cell.Cell.{Cell}
 use Rattle.entries.specs.declared.cell.Cell.TheVariants.{Used, Free}
 use Rattle.entries.specs.declared.revision.Revision.{Revision}
+use Rattle.entries.specs.Tables.{cells_of}
 use Rattle.keeping.specs.Answering.{OpenBook, used_among, fetched_from}
 use Rattle.book.specs.Asked.{RowAsked}
-use Rattle.book.specs.Rows.{is_free, BodyFound, Found, NotUsed}
+use Rattle.book.specs.Rows.{is_free, BodyAmong, BodyFound, Found, NotUsed}
 use Rattle.keeping.specs.Standing.{Stands, SoundIn}
 use Rattle.keeping.specs.Staying.{RowAt}
 use Rattle.keeping.specs.Telling.{NoRow, CellAt}
@@ -73,6 +74,20 @@ no_row m rs cs n k b absent =
 pub no_row_found : (rs : List Revision) (k : ℕ) (o : Option Revision) → Found rs k o → ((q : Revision) → o ≡ Some q → ⊥) → NoRow rs k
 no_row_found rs k None f h = f
 no_row_found rs k (Some q) f h = absurd (h q refl)
+
+-- a body among a row's own cells is that of the row
+pub body_found : (cs own : List Cell) (q : Revision) (n : ℕ) (o : Option Body) → own ≡ cells_of cs q → q.first + q.size ≤ length cs → BodyAmong own n o → BodyFound cs q n o
+body_found cs own q n o e w h = by_cell o (rw e at h)
+  where
+    long : length (cells_of cs q) ≡ q.size
+    long = simp (length-take, length-drop) (omega arith)
+
+    there : (c : Cell) → n < q.size → get_or (cells_of cs q) n c ≡ get_or cs (q.first + n) c
+    there c l = get_or-take q.size (drop q.first cs) n c l ∙ get_or-drop q.first cs n c
+
+    by_cell : (x : Option Body) → BodyAmong (cells_of cs q) n x → BodyFound cs q n x
+    by_cell None f = λ c a. f c (omega (arith, long, a.below)) (a.read ∙ sym (there c a.below))
+    by_cell (Some b) f = record { below = omega (arith, long, f.0); read = f.1 ∙ there _ (omega (arith, long, f.0)) }
 
 pub no_body_found : (cs : List Cell) (q : Revision) (n : ℕ) (o : Option Body) → BodyFound cs q n o → ((b : Body) → o ≡ Some b → ⊥) → NotUsed cs q n
 no_body_found cs q n None f h = f

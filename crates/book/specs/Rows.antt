@@ -1,5 +1,5 @@
 -- A row that is looked for.
-use Rattle.std.specs.Prelude.{◌≡◌, ℕ, Bool, true, false, List, Some, None, Option}
+use Rattle.std.specs.Prelude.{◌≡◌, ℕ, ◌<◌, Bool, true, false, List, length, slice_index_or, Some, None, Option}
 use Rattle.entries.specs.declared.cell.Cell.{Cell}
 use Rattle.entries.specs.declared.cell.Cell.TheVariants.{Used, Free}
 use Rattle.entries.specs.declared.revision.Revision.{Revision}
@@ -24,3 +24,8 @@ NotUsed cs q n = (c : Cell) → CellAt cs q n c → is_free c ≡ true
 abbrev pub BodyFound : List Cell → Revision → ℕ → Option Body → Type 0
 BodyFound cs q n None = NotUsed cs q n
 BodyFound cs q n (Some b) = CellAt cs q n (Used b.generation b.start b.end)
+
+-- the same among the cells of a row alone
+abbrev pub BodyAmong : List Cell → ℕ → Option Body → Type 0
+BodyAmong own n None = (c : Cell) → n < length own → c ≡ slice_index_or own n c → is_free c ≡ true
+BodyAmong own n (Some b) = (n < length own) × (Used b.generation b.start b.end ≡ slice_index_or own n (Used b.generation b.start b.end))

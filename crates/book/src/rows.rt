@@ -2,7 +2,7 @@
 ghost use Rattle.std.specs.Prelude.{◌≡◌, ◌+◌, ◌≤◌, length, not, count_by};
 ghost use Rattle.entries.specs.Tables.{cells_of};
 ghost use Rattle.keeping.specs.Staying.{RowAt};
-ghost use Rattle.book.specs.Rows.{BodyFound, Found, is_free};
+ghost use Rattle.book.specs.Rows.{BodyAmong, Found, is_free};
 
 use entries::cell::Cell;
 use entries::revision::Revision;
@@ -49,16 +49,15 @@ pub struct Body {
     pub end: usize,
 }
 
-// The body of a number in a row, where it is in use.
-pub fn body_of(cells: &[Cell], row: Revision, n: usize) -> Option<Body>
-    requires { row.first + row.size ≤ length cells.now }
-    ensures { BodyFound cells.now row n result }
+// The body of a number among the cells of a row, where it is in use.
+pub fn body_of(own: &[Cell], n: usize) -> Option<Body>
+    ensures { BodyAmong own.now n result }
 {
     let Cell::Used {
         generation,
         start,
         end,
-    } = *cells_of(cells, row).get(n)?
+    } = *own.get(n)?
     else {
         return None;
     };

@@ -42,13 +42,9 @@ fn read_entries(view: View<'_>, first: u64, count: u64, rows: &mut Rows) -> Resu
     ensures long { IfOk result (λ q. view.entry.at.place + 20 * count ≤ q) }
 {
     let mut line = view;
-    for i in 0..count {
+    for number in first..first + count {
         let (entry, end) = line.placed(entry_at(line.at))?;
-        let row = Row {
-            number: first + i,
-            entry,
-        };
-        rows.push(row);
+        rows.push(Row { number, entry });
         line = line.to(end);
     }
     Ok(line.at.place)

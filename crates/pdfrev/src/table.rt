@@ -12,6 +12,7 @@ pub fn list<S: Store, W: Write>(heap: Global, book: &Book<S>, out: &mut W) -> Re
     out.write_all(b"revision  own bytes  ends at  Size  in use  objects\n")?;
     let count = book.revisions()?;
     let mut start = 0;
+    // the book answers by the revision's number and lends no list
     for before in 0..count {
         let k = before + 1;
         let listing = book.list(k)?;

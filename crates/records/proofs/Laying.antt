@@ -135,12 +135,13 @@ lay_listed items was first size n new c h e l = lay_on items was first size n ne
 kept_cell : (items was more rest : List Cell) (i : ℕ) (d : Cell) → items ++ more ≡ was ++ rest → i < length items → i < length was → get_or items i d ≡ get_or was i d
 kept_cell items was more rest i d e a b = sym (get_or_append_left items more d i a) ∙ ap (λ (t : List Cell). get_or t i d) e ∙ get_or_append_left was rest d i b
 
-pub lay_before : (items was : List Cell) (first size n : ℕ) (new : List (ℕ × Cell)) (d : Cell) → n < size → None ≡ find n new → first + n < length was → first + n < length items →
-    Laying items was first size n new → Laying (items ++ get_or items (first + n) d ∷ []) was first size (n + 1) new
-lay_before items was first size n new d h e b a l =
-    let g : get_or (drop first was) n d ≡ get_or items (first + n) d = get_or-drop first was n d ∙ sym (kept_cell items was _ _ (first + n) d l a b) in
-    let z : nth n (drop first was) ≡ Some (get_or items (first + n) d) = nth_at n (drop first was) d (simp length-drop (omega arith)) ∙ ap Some g in
-    lay_on items was first size n new (get_or items (first + n) d) h (ap (λ o. either o (nth n (drop first was))) (sym e) ∙ z) l
+pub lay_before : (items was seen : List Cell) (first size n : ℕ) (new : List (ℕ × Cell)) (d : Cell) → seen ≡ items → n < size → None ≡ find n new → first + n < length was → first + n < length items →
+    Laying items was first size n new → Laying (items ++ get_or seen (first + n) d ∷ []) was first size (n + 1) new
+lay_before items was seen first size n new d s h e b a l =
+    let k : get_or items (first + n) d ≡ get_or seen (first + n) d = ap (λ (t : List Cell). get_or t (first + n) d) (sym s) in
+    let g : get_or (drop first was) n d ≡ get_or seen (first + n) d = get_or-drop first was n d ∙ sym (kept_cell items was _ _ (first + n) d l a b) ∙ k in
+    let z : nth n (drop first was) ≡ Some (get_or seen (first + n) d) = nth_at n (drop first was) d (simp length-drop (omega arith)) ∙ ap Some g in
+    lay_on items was first size n new (get_or seen (first + n) d) h (ap (λ o. either o (nth n (drop first was))) (sym e) ∙ z) l
 
 pub lay_end : (items was : List Cell) (first size n : ℕ) (new : List (ℕ × Cell)) → size ≤ n → Laying items was first size n new → items ≡ was ++ laid size 0 new (drop first was)
 unfolding laid

@@ -1,20 +1,21 @@
 -- The tables of revisions, in memory that was taken once.
-use Rattle.std.specs.Prelude.{◌≡◌, ℕ, ◌≤◌, List, [], ◌∷◌, ◌++◌, length, drop, Ok, Err, vec_items, Result, MatchResult}
+use Rattle.std.specs.Prelude.{◌≡◌, ℕ, ◌≤◌, List, [], ◌∷◌, ◌++◌, length, drop, Ok, Err, Result, MatchResult}
 use Rattle.faults.specs.declared.fault.Fault.{Fault}
 use Rattle.format.specs.Bytes.{Bytes}
 use Rattle.format.specs.Revisions as format
 use Rattle.entries.specs.declared.cell.Cell.{Cell}
 use Rattle.entries.specs.declared.revision.Revision.{Revision}
+use Rattle.entries.specs.Reserving.{items_of}
 use Rattle.entries.specs.Tables.{Stacked, TablesOf}
 use Rattle.records.specs.declared.link.Link.{Link}
 use Rattle.records.specs.declared.revision_tables.Tables.{Tables}
 use Rattle.records.specs.Links.{next_revision}
 
 abbrev pub revisions_held : Tables → List Revision
-revisions_held t = vec_items t.revisions
+revisions_held t = items_of t.revisions
 
 abbrev pub cells_held : Tables → List Cell
-cells_held t = vec_items t.cells
+cells_held t = items_of t.cells
 
 -- every Size is at most 1000
 abbrev pub AllSmall : List Revision → Type 0

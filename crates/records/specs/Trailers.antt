@@ -1,5 +1,6 @@
 -- The trailer of a section that stands in the window.
-use Rattle.std.specs.Prelude.{◌≡◌, ℕ, ◌≤◌, List, length, take, drop, vec_items, Result, MatchResult}
+use Rattle.std.specs.Prelude.{◌≡◌, ℕ, ◌≤◌, List, length, take, drop, Result, MatchResult}
+use Rattle.entries.specs.Reserving.{items_of}
 use Rattle.faults.specs.declared.fault.Fault.{Fault}
 use Rattle.format.specs.Bytes.{Bytes, ok, bad}
 use Rattle.format.specs.Chain.{section_in, window_bytes}
@@ -18,7 +19,7 @@ seen_by s = seen_in s.window
 
 -- the offsets of the sections that it holds
 abbrev pub offsets_in : Scratch → List ℕ
-offsets_in s = vec_items s.offsets
+offsets_in s = items_of s.offsets
 
 -- The section at an offset was read into the window, which starts where it does, and its rows are held; or its fault.
 abbrev pub SectionSeen : Bytes → ℕ → Bytes → Rows → Result Read.Section Fault → Type 0

@@ -53,18 +53,19 @@ fn row_cell<S: Store>(
 }
 
 impl Scratch {
+    ghost use Rattle.entries.specs.Reserving.{items_of};
     ghost use Rattle.opening.specs.Held.{rows_held};
     ghost use Rattle.records.specs.Objects.{ReadsObjects};
 
     // Reads the objects of the section at `offset` whose rows are held, row by row, into numbered cells in the place of those held.
     pub(crate) fn read_objects<S: Store>(&mut self, store: &S, offset: usize) -> Result<(), Fault>
-        ensures is { ReadsObjects (S.Store.meaning store.now).bytes offset (rows_held self.old.rows) self.new.listed.items result }
+        ensures is { ReadsObjects (S.Store.meaning store.now).bytes offset (rows_held self.old.rows) (items_of self.new.listed) result }
         ensures kept { self.new.offsets ≡ self.old.offsets }
     {
         self.listed.clear();
         for row in self.rows.as_slice() {
             let cell = row_cell(store, &mut self.window, offset, *row)?;
-            self.listed.push_reserved((row.number, cell));
+            self.listed.push((row.number, cell));
         }
         Ok(())
     }

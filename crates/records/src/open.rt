@@ -1,10 +1,11 @@
 // Opening a file: length, header and tail; each section, the newest first; each revision, the oldest first.
-ghost use Rattle.std.specs.Prelude.{◌≡◌, ◌≤◌, List, [], length, vec_len};
+ghost use Rattle.std.specs.Prelude.{◌≡◌, List, []};
 ghost use Rattle.format.specs.Chain.{Link};
 ghost use Rattle.format.specs.Revisions.{header_fits};
 ghost use Rattle.format.specs.Sections.{last_offset};
 ghost use Rattle.records.specs.Chained.{LinkedFrom, Opens, RevisionsRead};
 ghost use Rattle.records.specs.Tabled.{Tabled, cells_held, revisions_held};
+ghost use Rattle.records.specs.Trailers.{offsets_in};
 
 use crate::revision::read_revision;
 use crate::revision_tables::Tables;
@@ -48,10 +49,9 @@ fn read_revisions<S: Store>(
     scratch: &mut Scratch,
     tables: &mut Tables,
 ) -> Result<(), Fault>
-    requires few { vec_len scratch.old.offsets ≤ 64 }
     requires revisions { revisions_held tables.old ≡ [] }
     requires cells { cells_held tables.old ≡ [] }
-    ensures is { (ls : List Link) → LinkedFrom (S.Store.meaning store.now).bytes 0 ls scratch.old.offsets.items → RevisionsRead (S.Store.meaning store.now).bytes ls (revisions_held tables.new) (cells_held tables.new) result }
+    ensures is { (ls : List Link) → LinkedFrom (S.Store.meaning store.now).bytes 0 ls (offsets_in scratch.old) → RevisionsRead (S.Store.meaning store.now).bytes ls (revisions_held tables.new) (cells_held tables.new) result }
     ensures tabled { Tabled (revisions_held tables.new) (cells_held tables.new) }
 {
     // Each offset is taken out of the memory first, since reading its revision needs the rest of it.

@@ -1,8 +1,7 @@
 // The tables of the revisions of an open file.
-ghost use Rattle.std.specs.Prelude.{◌≤◌, vec_capacity};
-
 use crate::rows::HIGHEST_NUMBER;
 use entries::cell::Cell;
+use entries::reserved::Reserved;
 use entries::revision::Revision;
 
 mod methods;
@@ -18,8 +17,6 @@ pub const MOST_CELLS: usize = MOST_REVISIONS * MOST_SIZE;
 // That the tables stand so is no invariant: `cut` keeps any part of them.
 #[derive(Drop)]
 pub struct Tables {
-    revisions: Vec<Revision>,
-    cells: Vec<Cell>,
-    ghost revisions_room: { 64 ≤ vec_capacity revisions },
-    ghost cells_room: { 64000 ≤ vec_capacity cells },
+    revisions: Reserved<Revision, MOST_REVISIONS>,
+    cells: Reserved<Cell, MOST_CELLS>,
 }

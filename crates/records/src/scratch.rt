@@ -1,10 +1,9 @@
 // The memory that reading a file takes, taken once.
-ghost use Rattle.std.specs.Prelude.{◌≤◌, vec_capacity};
-ghost use Rattle.opening.specs.Figures.{most_rows};
-
+use crate::revision_tables::MOST_REVISIONS;
 use crate::window::Window;
 use entries::cell::Cell;
-use opening::rows::Rows;
+use entries::reserved::Reserved;
+use opening::rows::{MOST_ROWS, Rows};
 
 mod methods;
 
@@ -13,8 +12,6 @@ mod methods;
 pub struct Scratch {
     pub(crate) window: Window,
     pub(crate) rows: Rows,
-    pub(crate) listed: Vec<(u64, Cell)>,
-    pub(crate) offsets: Vec<usize>,
-    ghost listed_room: { most_rows ≤ vec_capacity listed },
-    ghost offsets_room: { 64 ≤ vec_capacity offsets },
+    pub(crate) listed: Reserved<(u64, Cell), MOST_ROWS>,
+    pub(crate) offsets: Reserved<usize, MOST_REVISIONS>,
 }

@@ -1,9 +1,12 @@
 // The cells of a revision's table.
-ghost use Rattle.std.specs.Prelude.{◌≡◌, ◌+◌, ◌-◌, ◌≤◌, ◌++◌, drop, vec_len, vec_capacity};
+ghost use Rattle.std.specs.Prelude.{◌≡◌, ◌+◌, ◌-◌, ◌≤◌, ◌++◌, length, drop};
+ghost use Rattle.entries.specs.Reserving.{items_of};
 ghost use Rattle.format.specs.Revisions.{find};
 ghost use Rattle.records.specs.Laid.{Covers, laid};
 
+use crate::revision_tables::MOST_CELLS;
 use entries::cell::Cell;
+use entries::reserved::Reserved;
 
 // The cell that is listed for a number, the first where there are several.
 fn listed_cell(listed: &[(u64, Cell)], n: u64) -> Option<Cell>
@@ -15,21 +18,25 @@ fn listed_cell(listed: &[(u64, Cell)], n: u64) -> Option<Cell>
 
 // Adds a table of that Size behind the cells: for each number the cell that is listed or, where there is none, its cell in the table before,
 // which is the last one and starts at `first`.
-pub fn lay(cells: &mut Vec<Cell>, first: usize, size: usize, listed: &[(u64, Cell)])
-    requires last { first ≤ vec_len cells.old }
-    requires room { vec_len cells.old + size ≤ vec_capacity cells.old }
-    requires covered { Covers size listed.now (vec_len cells.old - first) }
-    ensures items { cells.new.items ≡ cells.old.items ++ laid size 0 listed.now (drop first cells.old.items) }
-    ensures len { vec_len cells.new ≡ vec_len cells.old + size }
-    ensures capacity { vec_capacity cells.new ≡ vec_capacity cells.old }
+pub fn lay(
+    cells: &mut Reserved<Cell, MOST_CELLS>,
+    first: usize,
+    size: usize,
+    listed: &[(u64, Cell)],
+)
+    requires last { first ≤ length (items_of cells.old) }
+    requires room { length (items_of cells.old) + size ≤ 64000 }
+    requires covered { Covers size listed.now (length (items_of cells.old) - first) }
+    ensures items { items_of cells.new ≡ items_of cells.old ++ laid size 0 listed.now (drop first (items_of cells.old)) }
+    ensures len { length (items_of cells.new) ≡ length (items_of cells.old) + size }
 {
     // the cells are read while they grow, so no iterator lends them
     for n in 0..size {
         // there is no `From` of `usize` for `u64`
         let cell = match listed_cell(listed, n as u64) {
             Some(cell) => cell,
-            None => cells[first + n],
+            None => cells.as_slice()[first + n],
         };
-        cells.push_reserved(cell);
+        cells.push(cell);
     }
 }

@@ -29,6 +29,7 @@ pub fn differences<S: Store>(
     let later = book.list(k)?;
     let count = earlier.size.max(later.size);
     let mut all = Vec::with_capacity(heap, count)?;
+    // the book answers by number and lends no list
     for n in 0..count {
         if let Some(difference) = book.differ(j, k, n)? {
             all.push_reserved(Change {

@@ -1,7 +1,5 @@
 // Any list of calls on a new book.
 ghost use Rattle.std.specs.Prelude.{◌≡◌, ◌≤◌, true, [], length, vec_capacity};
-ghost use Rattle.format.specs.Book.{shut};
-ghost use Rattle.book.specs.Books.{moment_of, store_in};
 ghost use Rattle.runs.specs.Made.{MakesAll, Tied};
 ghost use Rattle.runs.specs.Works.{Worked, had_memory};
 
@@ -15,6 +13,7 @@ use std::alloc::Global;
 use stores::store::Store;
 
 // Makes every call of the list, the first first, and puts each answer behind the one before.
+// That there is room for the answers is a clause, here and in `work_with`: a struct of calls and memory would be made for this call alone.
 fn make_calls<S: Store>(
     book: &mut Book<S>,
     slip: &mut Slip,
@@ -32,18 +31,24 @@ fn make_calls<S: Store>(
     }
 }
 
-// Opens a new book, and makes every call of the list on it.
-fn work_on<S: Store>(
-    mut book: Book<S>,
-    mut answers: Vec<Result<(), Fault>>,
+// Opens a new book round the store, and makes every call of the list on it, whatever these are: accepted or refused, with a spent slip or
+// the one held, in an update or not. The answers go into a vector that is empty, with room for all of them.
+//
+// What it leaves holds of every store, of every list and of all bytes: the calls with their answers are a run of the book; the file is the
+// opening bytes up to the last opening revision kept and then, byte for byte, the updates held; and each revision in it, opened alone and in
+// the file, shows exactly the objects that the opening bytes and the updates up to it leave.
+pub fn work_with<S: Store>(
+    store: S,
+    memory: Memory,
     calls: &[Call<'_>],
+    mut answers: Vec<Result<(), Fault>>,
 ) -> Result<Work<S>, Stopped<S, WorkError>>
-    requires new { (moment_of S.Store.meaning book).phase ≡ shut }
     requires none { answers.items ≡ [] }
     requires room { length calls.now ≤ vec_capacity answers }
-    ensures worked { Worked S.Store.meaning (store_in book) calls.now result }
+    ensures worked { Worked S.Store.meaning store calls.now result }
     ensures remembers { had_memory result ≡ true }
 {
+    let mut book = Book::new(store, memory);
     // store and memory go back with the cause, and so not by `?`
     match book.open() {
         Ok(_) => {
@@ -57,26 +62,6 @@ fn work_on<S: Store>(
         }
         Err(fault) => Err(given_back(book, WorkError::Refused(fault))),
     }
-}
-
-// Opens a new book round the store, and makes every call of the list on it, whatever these are: accepted or refused, with a spent slip or
-// the one held, in an update or not. The answers go into a vector that is empty, with room for all of them.
-//
-// What it leaves holds of every store, of every list and of all bytes: the calls with their answers are a run of the book; the file is the
-// opening bytes up to the last opening revision kept and then, byte for byte, the updates held; and each revision in it, opened alone and in
-// the file, shows exactly the objects that the opening bytes and the updates up to it leave.
-pub fn work_with<S: Store>(
-    store: S,
-    memory: Memory,
-    calls: &[Call<'_>],
-    answers: Vec<Result<(), Fault>>,
-) -> Result<Work<S>, Stopped<S, WorkError>>
-    requires none { answers.items ≡ [] }
-    requires room { length calls.now ≤ vec_capacity answers }
-    ensures worked { Worked S.Store.meaning store calls.now result }
-    ensures remembers { had_memory result ≡ true }
-{
-    work_on(Book::new(store, memory), answers, calls)
 }
 
 // The same, with memory for the answers taken first: where there is none, nothing is done.

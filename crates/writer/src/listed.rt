@@ -74,6 +74,7 @@ pub(crate) fn run_end(plan: &[Planned], from: usize) -> usize
     ensures is { result ≡ from + length (front (listed_at plan.now from)) }
     ensures within { result ≤ length plan.now }
 {
+    // by number, since an entry depends on the numbers behind its own
     for n in from..plan.len() {
         if entry_of(plan, n).is_none() {
             return n;

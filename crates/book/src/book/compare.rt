@@ -5,7 +5,7 @@ ghost use Rattle.book.specs.Differences.{Lies, LiesIf, ask_differ, became, body_
 
 use super::Book;
 use crate::parts::same_parts;
-use crate::rows::{Body, body_of};
+use crate::rows::{Body, body_of, cells_of};
 use faults::fault::Fault;
 use stores::store::Store;
 
@@ -24,8 +24,9 @@ impl<S: Store> Book<S> {
     {
         let earlier = self.row(j, n)?;
         let later = self.row(k, n)?;
-        let before = body_of(self.memory.tables.cells(), earlier, n);
-        let after = body_of(self.memory.tables.cells(), later, n);
+        let cells = self.memory.tables.cells();
+        let before = body_of(cells_of(cells, earlier), n);
+        let after = body_of(cells_of(cells, later), n);
         Ok(compare(&self.store, before, after))
     }
 }

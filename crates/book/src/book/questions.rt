@@ -52,7 +52,8 @@ impl<S: Store> Book<S> {
         ensures { Fetches (moment_of S.Store.meaning self.now) k n buffer.old result buffer.new }
     {
         let row = self.row(k, n)?;
-        let Some(body) = body_of(self.memory.tables.cells(), row, n) else {
+        let own = cells_of(self.memory.tables.cells(), row);
+        let Some(body) = body_of(own, n) else {
             return Err(Fault::refused(Reason::NotInUse, n));
         };
         let length = body_into(&self.store, body, n, buffer)?;

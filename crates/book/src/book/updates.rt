@@ -1,4 +1,6 @@
 // What the calls of an open update do.
+// The phase that each asks for is a clause and no type of its own: by a rule of the project one method (`perform`) matches the book's own state
+// and the call together and changes the state in place. So the state is a value in the book, and that match is where the clause comes from.
 ghost use Rattle.std.specs.Prelude.{◌≡◌, false, Ok};
 ghost use Rattle.format.specs.Book.{abandon, begin, put, remove};
 ghost use Rattle.book.specs.declared.call.Phase.TheVariants.{Standing, Updating};

@@ -1,5 +1,6 @@
 // Making such a list, asking it, and adding to it. What adds asks for room, and so it never fails.
-ghost use Rattle.std.specs.Prelude.{◌≡◌, ◌+◌, ◌<◌, ◌≤◌, [], ◌∷◌, ◌++◌, length, insert, IfOk};
+ghost use Rattle.std.specs.Prelude.{◌≡◌, ◌+◌, ◌<◌, ◌≤◌, [], ◌∷◌, ◌++◌, length, insert, take, IfOk};
+ghost use Rattle.std.specs.Option.{IfNone, option_to_list};
 ghost use Rattle.entries.specs.Reserving.{items_of};
 
 use super::Reserved;
@@ -57,6 +58,23 @@ impl<T, const MOST: usize> Reserved<T, MOST> {
         ensures { items_of self.new ≡ insert (items_of self.old) place one }
     {
         let _ = self.items.insert(place, one);
+    }
+
+    // The last item, taken out; none where there are no items.
+    pub fn pop(&mut self) -> Option<T>
+        ensures items { items_of self.old ≡ items_of self.new ++ option_to_list result }
+        ensures none { IfNone result (items_of self.old ≡ []) }
+    {
+        self.items.pop()
+    }
+
+    // The first items, as many as named, and no others.
+    pub fn truncate(&mut self, kept: usize)
+    where
+        T: Drop,
+        ensures { items_of self.new ≡ take kept (items_of self.old) }
+    {
+        self.items.truncate(kept);
     }
 
     // The items, in their order.

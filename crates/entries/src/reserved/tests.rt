@@ -15,5 +15,12 @@ fn full_and_let_go(rt: HostRuntime) -> Result<(), Fail> {
     list.extend_from_slice(b"f");
     list.insert(1, b'e');
     assert!(rt; list.as_slice() == b"def".as_slice());
+    assert!(rt; list.pop() == Some(b'f') && list.as_slice() == b"de".as_slice());
+    list.truncate(3);
+    assert!(rt; list.len() == 2);
+    list.truncate(1);
+    assert!(rt; list.as_slice() == b"d".as_slice());
+    list.clear();
+    assert!(rt; list.pop().is_none());
     Ok(())
 }

@@ -1,5 +1,5 @@
 // The walk along the chain.
-ghost use Rattle.std.specs.Prelude.{◌≡◌, ◌≤◌, vec_len};
+ghost use Rattle.std.specs.Prelude.{◌≡◌};
 ghost use Rattle.format.specs.Chain.{before};
 ghost use Rattle.records.specs.Chained.{may_end};
 ghost use Rattle.records.specs.declared.chain.Ending.TheVariants.{At};
@@ -37,6 +37,7 @@ fn offset_before(offset: usize, prev: Option<i64>) -> Result<Option<usize>, Faul
 
 impl Scratch {
     ghost use Rattle.records.specs.Chained.{ReadsNext, Walked};
+    ghost use Rattle.records.specs.Trailers.{offsets_in};
 
     // Checks the section at `offset`, and answers where the one before it starts.
     fn read_next<S: Store>(
@@ -63,15 +64,15 @@ impl Scratch {
         newest: usize,
         length: usize,
     ) -> Result<(), Fault>
-        ensures is { Walked (S.Store.meaning store.now).bytes newest (At length) self.new.offsets.items result }
-        ensures few { vec_len self.new.offsets ≤ 64 }
+        ensures { Walked (S.Store.meaning store.now).bytes newest (At length) (offsets_in self.new) result }
     {
         self.offsets.clear();
         let mut offset = newest;
         let mut ending = Ending::At(length);
+        // the range only ends the walk: each section's offset is known from the one before
         for _ in 0..MOST_REVISIONS {
             let before = self.read_next(store, offset, ending)?;
-            self.offsets.push_reserved(offset);
+            self.offsets.push(offset);
             let Some(place) = before else {
                 return Ok(());
             };

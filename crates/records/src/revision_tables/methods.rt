@@ -3,10 +3,11 @@ ghost use Rattle.std.specs.Prelude.{◌≡◌, ◌+◌, ◌<◌, ◌≤◌, [], 
 ghost use Rattle.records.specs.Laid.{Covers, laid};
 ghost use Rattle.records.specs.Tabled.{Tabled, cells_held, held_as, last_first, newest_cells, revisions_held};
 
-use super::{MOST_CELLS, MOST_REVISIONS, Tables};
+use super::Tables;
 use crate::link::Link;
 use crate::table::lay;
 use entries::cell::Cell;
+use entries::reserved::Reserved;
 use entries::revision::Revision;
 use std::alloc::{AllocError, Global};
 
@@ -15,8 +16,8 @@ impl Tables {
     pub fn new(heap: Global) -> Result<Tables, AllocError>
         ensures { IfOk result (λ t. (revisions_held t ≡ []) × (cells_held t ≡ [])) }
     {
-        let revisions = Vec::with_capacity(heap, MOST_REVISIONS)?;
-        let cells = Vec::with_capacity(heap, MOST_CELLS)?;
+        let revisions = Reserved::new(heap)?;
+        let cells = Reserved::new(heap)?;
         Ok(Tables { revisions, cells })
     }
 
@@ -40,7 +41,7 @@ impl Tables {
     pub(crate) fn is_empty(&self) -> bool
         ensures { result ≡ (length (revisions_held self.now) == 0) }
     {
-        self.revisions.is_empty()
+        self.revisions().is_empty()
     }
 
     // The revisions, the oldest first.
@@ -101,7 +102,7 @@ impl Tables {
         let before = self.newest_start();
         let first = self.cells.len();
         lay(&mut self.cells, before, size, listed);
-        self.revisions.push_reserved(Revision {
+        self.revisions.push(Revision {
             offset: link.offset,
             end: link.end,
             size,

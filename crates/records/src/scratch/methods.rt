@@ -3,17 +3,17 @@ ghost use Rattle.std.specs.Prelude.{◌≡◌};
 ghost use Rattle.records.specs.Trailers.{seen_by};
 
 use super::Scratch;
-use crate::revision_tables::MOST_REVISIONS;
 use crate::window::Window;
-use opening::rows::{MOST_ROWS, Rows};
+use entries::reserved::Reserved;
+use opening::rows::Rows;
 use std::alloc::{AllocError, Global};
 
 impl Scratch {
     pub fn new(heap: Global) -> Result<Scratch, AllocError> {
         let window = Window::new(heap)?;
         let rows = Rows::new(heap)?;
-        let listed = Vec::with_capacity(heap, MOST_ROWS)?;
-        let offsets = Vec::with_capacity(heap, MOST_REVISIONS)?;
+        let listed = Reserved::new(heap)?;
+        let offsets = Reserved::new(heap)?;
         Ok(Scratch {
             window,
             rows,

@@ -1,8 +1,9 @@
-use Rattle.std.proofs.Common.{◌≡◌, ◌+◌, vec_items, vec_len, vec_capacity}
+use Rattle.std.proofs.Common.{◌≡◌, ◌+◌, length}
+use Rattle.entries.specs.Reserving.{items_of}
 use Rattle.records.proofs.Laying.{Laying}
 use Rattle.records.proofs.table.lay.Given as goal
 
 abbrev pub invariant-loop-n : goal.invariant-loop-n
 invariant-loop-n l =
-    (vec_len l.cells ≡ vec_len l.initial.cells + l.n) × (vec_capacity l.cells ≡ vec_capacity l.initial.cells)
-    × Laying (vec_items l.cells) (vec_items l.initial.cells) l.first l.size l.n l.listed
+    (length (items_of l.cells) ≡ length (items_of l.initial.cells) + l.n)
+    × Laying (items_of l.cells) (items_of l.initial.cells) l.first l.size l.n l.listed
