@@ -43,20 +43,9 @@ fn entry_end(at: Lexer<'_>) -> Result<usize, Lack>
 {
     match &at.src[at.place..] {
         [] => Err(Lack::Short),
-        [x] => {
-            if starts_end(*x) {
-                Err(Lack::Short)
-            } else {
-                Err(Lack::Misfit)
-            }
-        },
-        [x, y, ..] => {
-            if ends_entry(*x, *y) {
-                Ok(at.place + 2)
-            } else {
-                Err(Lack::Misfit)
-            }
-        },
+        [x] if starts_end(*x) => Err(Lack::Short),
+        [x, y, ..] if ends_entry(*x, *y) => Ok(at.place + 2),
+        _ => Err(Lack::Misfit),
     }
 }
 
