@@ -64,6 +64,7 @@ fn the_word(at: Lexer<'_>, word: &[u8]) -> Result<usize, Fault>
 }
 
 // The body behind `obj`, and `endobj`.
+// Number and generation are two arguments, since each comes when it is read: `frame_rest` has the number alone.
 fn frame_body(at: Lexer<'_>, number: u32, generation: u32) -> Result<Frame, Fault>
     ensures is { framed at.entry.src.now result ≡ framed_body number generation (skip false at.entry.place (rest_of at.entry)) }
     ensures within { IfOk result (Ordered (length at.entry.src.now)) }

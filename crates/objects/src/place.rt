@@ -1,4 +1,5 @@
 // Places that callers give.
+// The public readers take the bytes with any place, past the end too, and refuse it: a `Lexer` would ask its caller for the bound.
 ghost use Rattle.std.specs.Prelude.{◌≡◌, ◌<◌, length, MatchResult};
 ghost use Rattle.faults.specs.declared.reason.Reason.TheVariants.{BytesEnd};
 ghost use Rattle.format.specs.Failures.{object_fault};

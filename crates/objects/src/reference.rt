@@ -1,34 +1,31 @@
 // The trial for a reference: behind an integer, a generation and `R`, or nothing.
-ghost use Rattle.std.specs.Prelude.{◌≡◌, if◌then◌else◌};
+ghost use Rattle.std.specs.Prelude.{◌≡◌};
+ghost use Rattle.std.specs.Option.{unwrap_or};
 ghost use Rattle.objects.specs.Steps.{Takes, Tries};
 
 use crate::tokens::is_word;
 use lexer::reader::Lexer;
 use lexer::token::Token;
 
-// Puts a place back where it was on every way out, unless what was tried for is found.
+// Puts a place back, on every way out, to where it was; once what was tried for is found, to nowhere.
+// A guard holds the lexer's own place, which is a number, and not the lexer: a rule of the project.
 struct Trial<'g> {
     place: &'g mut usize,
-    back: usize,
-    found: bool,
+    back: Option<usize>,
 }
 
 impl Drop for Trial<'_> {
     fn drop(self)
-        ensures { self.exit.0.now ≡ (if self.entry.found then self.entry.place.now else self.entry.back) }
+        ensures { self.exit.0.now ≡ unwrap_or self.entry.back self.entry.place.now }
     {
-        if !self.found {
-            *self.place = self.back;
+        let Trial { place, back } = self;
+        if let Some(back) = back {
+            *place = back;
         }
-        let Trial {
-            place: _,
-            back: _,
-            found: _,
-        } = self;
     }
 }
 
-// The token that comes next, if it can be read, and a place moves behind it. The guard holds the place and not the lexer, so `Lexer::next` cannot be called under it.
+// The token that comes next, if it can be read, and a place moves behind it. Not `Lexer::next`: under the guard, the place is the guard's.
 fn take<'a>(at: Lexer<'a>, place: &mut usize) -> Option<Token<'a>>
     ensures { Takes at.entry.src.now at.entry.place place.new result }
 {
@@ -45,8 +42,7 @@ pub fn try_reference(lexer: &mut Lexer<'_>, number: u32) -> Option<u16>
     let start = *lexer;
     let mut trial = Trial {
         place: &mut lexer.place,
-        back: start.place,
-        found: false,
+        back: Some(start.place),
     };
     let Token::Unsigned(second) = take(start, trial.place)? else {
         return None;
@@ -59,6 +55,6 @@ pub fn try_reference(lexer: &mut Lexer<'_>, number: u32) -> Option<u16>
     if !is_word(mark, b"R") {
         return None;
     }
-    trial.found = true;
+    trial.back = None;
     Some(generation)
 }

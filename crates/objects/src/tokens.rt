@@ -14,10 +14,7 @@ use lexer::token::{Found, Token};
 pub fn is_word(token: Token<'_>, word: &[u8]) -> bool
     ensures { result ≡ is_word word.now (kind_of token.entry) }
 {
-    match token {
-        Token::Word(run) => same_bytes(word, run),
-        _ => false,
-    }
+    matches!(token, Token::Word(run) if same_bytes(word, run))
 }
 
 // The refusal of a token that does not fit where it stands: the bytes end there, or the reason.

@@ -1,10 +1,10 @@
 -- The mark and the end of an entry, at a place of the window.
-use Rattle.std.proofs.Common.{◌≡◌, ℕ, suc, ◌+◌, ◌<◌, ◌≤◌, true, false, ◌||◌, eqb, [], ◌∷◌, length, get_or, drop, ap, ◌∙◌, arith}
+use Rattle.std.proofs.Common.{◌≡◌, ℕ, suc, ◌+◌, ◌-◌, ◌<◌, ◌≤◌, true, false, ◌||◌, eqb, [], ◌∷◌, length, get_or, take, drop, sym, refl, ap, ◌∙◌, arith}
 use Rattle.std.proofs.lemmas.List.{at_drop_all, at_drop_more}
 use Rattle.std.proofs.lemmas.Bool.{eq-eqb, ne_eqb}
 use Rattle.format.specs.Bytes.{Bytes}
 use Rattle.format.specs.Lines.{took, short, misfit, use_mark, slot_end, slot_ends}
-use Rattle.opening.proofs.Places.{one_on, two_on}
+use Rattle.opening.proofs.Places.{one_on, two_on, byte_on}
 
 module _ (p x : ℕ) (xs : Bytes) where
   n_here : eqb x 110 ≡ true → use_mark p (x ∷ xs) ≡ took true (suc p) xs
@@ -53,28 +53,36 @@ module _ (src : Bytes) (p base : ℕ) where
   unfolding slot_end
   end_short h = at_drop_all (slot_end (base + p)) src p h
 
-  one_left : p + 1 ≡ length src → slot_end (base + p) (drop p src) ≡ slot_end (base + p) (get_or src p 0 ∷ [])
+  -- the bytes there, as the code reads them
+  abbrev byte : ℕ → ℕ
+  byte i = get_or (take (length src - p) (drop p src)) i 0
+
+  one_left : p + 1 ≡ length src → slot_end (base + p) (drop p src) ≡ slot_end (base + p) (byte 0 ∷ [])
   one_left h =
       let i : p < length src = omega arith in
       let j : length src ≤ p + 1 = omega arith in
-      at_drop_more (slot_end (base + p)) src p 0 i ∙ at_drop_all (λ r. slot_end (base + p) (get_or src p 0 ∷ r)) src (p + 1) j
+      at_drop_more (slot_end (base + p)) src p 0 i
+      ∙ at_drop_all (λ r. slot_end (base + p) (get_or src p 0 ∷ r)) src (p + 1) j
+      ∙ ap (λ x. slot_end (base + p) (x ∷ [])) (sym (byte_on src p 0 p (omega arith)))
 
-  pub end_one_short : p + 1 ≡ length src → (eqb (get_or src p 0) 32 || eqb (get_or src p 0) 13) ≡ true → slot_end (base + p) (drop p src) ≡ short
+  pub end_one_short : p + 1 ≡ length src → (eqb (byte 0) 32 || eqb (byte 0) 13) ≡ true → slot_end (base + p) (drop p src) ≡ short
   end_one_short h e = one_left h ∙ last_short _ _ [] e
 
-  pub end_one_misfit : p + 1 ≡ length src → (eqb (get_or src p 0) 32 || eqb (get_or src p 0) 13) ≡ false → slot_end (base + p) (drop p src) ≡ misfit
+  pub end_one_misfit : p + 1 ≡ length src → (eqb (byte 0) 32 || eqb (byte 0) 13) ≡ false → slot_end (base + p) (drop p src) ≡ misfit
   end_one_misfit h e = one_left h ∙ last_misfit _ _ [] e
 
-  two_left : p + 1 < length src → slot_end (base + p) (drop p src) ≡ slot_end (base + p) (get_or src p 0 ∷ get_or src (p + 1) 0 ∷ drop (p + 2) src)
+  two_left : p + 1 < length src → slot_end (base + p) (drop p src) ≡ slot_end (base + p) (byte 0 ∷ byte 1 ∷ drop (p + 2) src)
   two_left h =
       let i : p < length src = omega arith in
       let q : p + 1 + 1 ≡ p + 2 = omega arith in
       at_drop_more (slot_end (base + p)) src p 0 i
       ∙ at_drop_more (λ r. slot_end (base + p) (get_or src p 0 ∷ r)) src (p + 1) 0 h
       ∙ ap (λ k. slot_end (base + p) (get_or src p 0 ∷ get_or src (p + 1) 0 ∷ drop k src)) q
+      ∙ ap (λ x. slot_end (base + p) (x ∷ get_or src (p + 1) 0 ∷ drop (p + 2) src)) (sym (byte_on src p 0 p (omega arith)))
+      ∙ ap (λ y. slot_end (base + p) (byte 0 ∷ y ∷ drop (p + 2) src)) (sym (byte_on src p 1 (p + 1) refl))
 
-  pub end_two : p + 1 < length src → slot_ends (get_or src p 0) (get_or src (p + 1) 0) ≡ true → slot_end (base + p) (drop p src) ≡ took tt (base + (p + 2)) (drop (p + 2) src)
+  pub end_two : p + 1 < length src → slot_ends (byte 0) (byte 1) ≡ true → slot_end (base + p) (drop p src) ≡ took tt (base + (p + 2)) (drop (p + 2) src)
   end_two h e = two_left h ∙ two_fit _ _ _ _ e ∙ two_on (λ q. took tt q (drop (p + 2) src)) base p
 
-  pub end_two_misfit : p + 1 < length src → slot_ends (get_or src p 0) (get_or src (p + 1) 0) ≡ false → slot_end (base + p) (drop p src) ≡ misfit
+  pub end_two_misfit : p + 1 < length src → slot_ends (byte 0) (byte 1) ≡ false → slot_end (base + p) (drop p src) ≡ misfit
   end_two_misfit h e = two_left h ∙ two_misfit _ _ _ _ e

@@ -1,5 +1,5 @@
 -- What stands at a place of the window, as the definitions read it.
-use Rattle.std.proofs.Common.{◌≡◌, ℕ, suc, ◌+◌, ◌-◌, List, length, take, drop, ap, ◌∙◌, arith}
+use Rattle.std.proofs.Common.{◌≡◌, ℕ, suc, ◌+◌, ◌-◌, List, length, get_or, take, drop, ap, ◌∙◌, arith, get_or-drop}
 use Rattle.std.proofs.lemmas.List.{drop-drop, length-drop, take_all}
 
 -- one place on
@@ -18,3 +18,7 @@ place_on F src base p n =
 -- the bytes from a place on, as code cuts them
 pub rest_is : (src : List ℕ) (p : ℕ) → take (length src - p) (drop p src) ≡ drop p src
 rest_is src p = take_all (length src - p) (drop p src) (simp length-drop (omega arith))
+
+-- and a byte of them
+pub byte_on : (src : List ℕ) (p i q : ℕ) → q ≡ p + i → get_or (take (length src - p) (drop p src)) i 0 ≡ get_or src q 0
+byte_on src p i q place = ap (λ xs. get_or xs i 0) (rest_is src p) ∙ rw place (get_or-drop p src i 0)

@@ -10,20 +10,16 @@ pub use entries::entry::Entry;
 use lexer::reader::Lexer;
 
 // `n`, for an entry in use, or `f`.
+// Whether it is in use is a truth value until `entry_of` makes the enum: so the definition of an entry's line has the mark.
 fn use_mark(at: Lexer<'_>) -> Result<(bool, usize), Lack>
     ensures { Takes (λ b. b) use_mark at.entry.src.now at.entry.place result }
 {
-    // by tests: behind a slice pattern the proof has no fact that says which byte stands first
-    if at.place == at.src.len() {
-        return Err(Lack::Short);
+    match at.src.get(at.place) {
+        None => Err(Lack::Short),
+        Some(b'n') => Ok((true, at.place + 1)),
+        Some(b'f') => Ok((false, at.place + 1)),
+        Some(_) => Err(Lack::Misfit),
     }
-    if at.src[at.place] == b'n' {
-        return Ok((true, at.place + 1));
-    }
-    if at.src[at.place] == b'f' {
-        return Ok((false, at.place + 1));
-    }
-    Err(Lack::Misfit)
 }
 
 // The two last bytes of an entry: space CR, space LF or CR LF.
@@ -45,19 +41,12 @@ fn starts_end(x: u8) -> bool
 fn entry_end(at: Lexer<'_>) -> Result<usize, Lack>
     ensures { Passes slot_end at.entry.src.now at.entry.place result }
 {
-    if at.place == at.src.len() {
-        return Err(Lack::Short);
+    match &at.src[at.place..] {
+        [] => Err(Lack::Short),
+        [x] if starts_end(*x) => Err(Lack::Short),
+        [x, y, ..] if ends_entry(*x, *y) => Ok(at.place + 2),
+        _ => Err(Lack::Misfit),
     }
-    if at.place + 1 == at.src.len() {
-        if starts_end(at.src[at.place]) {
-            return Err(Lack::Short);
-        }
-        return Err(Lack::Misfit);
-    }
-    if !ends_entry(at.src[at.place], at.src[at.place + 1]) {
-        return Err(Lack::Misfit);
-    }
-    Ok(at.place + 2)
 }
 
 // The entry that has these ten digits: an object's offset, or the next free number.

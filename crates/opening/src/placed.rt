@@ -45,7 +45,8 @@ impl<'a> View<'a> {
     pub fn placed<T>(self, part: Result<T, Lack>) -> Result<T, Fault>
         ensures { result ≡ answered (placed (spot self.entry) (rest self.entry) (piece_here part)) }
     {
-        // no `map_err`: what its closure answered was left unopened in the proof, and the fault's equation did not close
+        // no `map_err`: tried, at one type in place of `T` too, by `move`, and with a clause of the closure's own. Where a closure captures the view,
+        // what `map_err` ensures tells nothing of the fault that it answers; with numbers alone, as in `objects::dictionary`, it does
         match part {
             Ok(x) => Ok(x),
             Err(lack) => Err(self.line_fault(lack)),

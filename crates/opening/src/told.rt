@@ -1,6 +1,7 @@
 // What a trailer says.
 
 // Size; Prev, if there is one; Root by its number and its generation.
+// Root's two are not bundled: a removal, and the fault of a root that does not fit, ask for the number alone.
 #[derive(Clone, Copy, Debug, PartialEq, Eq)]
 pub struct Told {
     pub size: i64,

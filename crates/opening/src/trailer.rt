@@ -28,6 +28,7 @@ fn kind(value: Option<Value>) -> Kind
 }
 
 // What the entry for a key is, in the trailer whose entries start at `inside`.
+// The bytes and the place, no `Lexer`: `value_of` takes any place, past the end too, and so nobody here has to show its bound; `told` likewise.
 fn kind_at(src: &[u8], inside: usize, name: &[u8]) -> Kind
     ensures { (es : Entries) (q : ℕ) (ys : Bytes) → entries (object_by 31) turns no_entries inside (drop inside src.now) ≡ ok es q ys → kind_of result ≡ trailer_entry (spelled name.now) es }
 {
