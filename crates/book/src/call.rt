@@ -39,7 +39,7 @@ pub enum Call<'a> {
 }
 
 impl Call<'_> {
-    // The number that the call names, 0 if none.
+    // The number that the call names, 0 if none: the definitions and the printed fault have 0 there.
     pub fn number(&self) -> usize
         ensures { result ≡ number_of self.now }
     {

@@ -14,7 +14,7 @@ use entries::entry::{Entry, Row};
 fn is_used_with(cell: &Cell, generation: u32) -> bool
     ensures { (file : Bytes) → result ≡ used_with generation (state_in file cell.now) }
 {
-    // tried: of an `if` in `matches!` the proof learns nothing; so here, and below
+    // tried `matches!(cell, Cell::Used { generation: held, .. } if ..)`: the proof learns nothing of the `if`
     match cell {
         Cell::Used {
             generation: held,
@@ -33,11 +33,12 @@ fn used_at(n: usize, generation: u32, cells: &[Cell]) -> bool
         .is_some_and(|cell| is_used_with(cell, generation))
 }
 
-// Root is in use with its generation, by its row or, where it has none, in the table before.
+// Root, which a trailer gives as a number and a generation, is in use with that generation, by its row or, where it has none, in the table before.
 pub fn root_fits(root: u32, root_generation: u32, rows: &[Row], old: &[Cell]) -> bool
     ensures { (file : Bytes) → result ≡ root_fits root root_generation (rows_of rows.now) (states_in file old.now) }
 {
     match find_row(rows, u64::from(root)) {
+        // tried `matches!` with an `if` in `is_used_with`: the proof learns nothing of the `if`
         Some(i) => match rows[i].entry {
             Entry::Used { generation, .. } => generation == root_generation,
             Entry::Free { .. } => false,
