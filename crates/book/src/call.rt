@@ -49,7 +49,7 @@ impl Call<'_> {
         }
     }
 
-    // Whether the call is shown a spent slip.
+    // Whether the call is shown a spent slip: false if it is shown none, as the definitions have it.
     pub fn is_spent(&self) -> bool
         ensures { result ≡ shows_spent self.now }
     {

@@ -14,14 +14,7 @@ use entries::entry::{Entry, Row};
 fn is_used_with(cell: &Cell, generation: u32) -> bool
     ensures { (file : Bytes) → result ≡ used_with generation (state_in file cell.now) }
 {
-    // tried `matches!(cell, Cell::Used { generation: held, .. } if ..)`: the proof learns nothing of the `if`
-    match cell {
-        Cell::Used {
-            generation: held,
-            ..
-        } => *held == generation,
-        Cell::Free { .. } => false,
-    }
+    matches!(cell, Cell::Used { generation: held, .. } if *held == generation)
 }
 
 // The cell at `n` is in use with that generation.
@@ -38,11 +31,9 @@ pub fn root_fits(root: u32, root_generation: u32, rows: &[Row], old: &[Cell]) ->
     ensures { (file : Bytes) → result ≡ root_fits root root_generation (rows_of rows.now) (states_in file old.now) }
 {
     match find_row(rows, u64::from(root)) {
-        // tried `matches!` with an `if` in `is_used_with`: the proof learns nothing of the `if`
-        Some(i) => match rows[i].entry {
-            Entry::Used { generation, .. } => generation == root_generation,
-            Entry::Free { .. } => false,
-        },
+        Some(i) => {
+            matches!(rows[i].entry, Entry::Used { generation, .. } if generation == root_generation)
+        }
         // there is no `From` of `u32` for `usize`
         None => used_at(root as usize, root_generation, old),
     }

@@ -50,7 +50,12 @@ mod tests {
 
     // The cause alone.
     fn cause<S: Drop, C>(stopped: Stopped<S, C>) -> C {
-        let Stopped { cause, .. } = stopped;
+        // tried `..`: what is not `Drop` is taken apart whole; so is `Work` below
+        let Stopped {
+            store: _,
+            memory: _,
+            cause,
+        } = stopped;
         cause
     }
 
@@ -199,7 +204,11 @@ mod tests {
         let out = empty(heap, 400)?;
         let more = Memory::new(heap)?;
         let calls = [Call::Begin, put(3, b"7"), Call::Commit { spent: false }];
-        let Work { book, slip, .. } = work(heap, store, memory, &calls).map_err(cause)?;
+        let Work {
+            book,
+            slip,
+            answers: _,
+        } = work(heap, store, memory, &calls).map_err(cause)?;
         let drawn = count_alone(&book, k, out, more);
         let (_store, _memory) = close(book, slip);
         drawn
