@@ -12,7 +12,7 @@ filled_front bytes b after from r k h f =
     ap (take k) f.after_is ∙ take-append-le k (take r (drop from bytes)) (drop r b) (omega arith) ∙ take-take k r (drop from bytes) h
 
 -- one part more is joined
-pub joined_more : (was mid is : Meaning) (bytes more : List ℕ) (p k : ℕ) (r : Result (Unit {0}) Fault) → Grown was (take p bytes) mid → more ≡ take k (drop p bytes) → p + k ≤ length bytes → p + k ≤ was.space → Appends mid more r is → Grown was (take (p + k) bytes) is
+joined_more : (was mid is : Meaning) (bytes more : List ℕ) (p k : ℕ) (r : Result (Unit {0}) Fault) → Grown was (take p bytes) mid → more ≡ take k (drop p bytes) → p + k ≤ length bytes → p + k ≤ was.space → Appends mid more r is → Grown was (take (p + k) bytes) is
 joined_more was mid is bytes more p k (Ok u) g e h s a =
     let l : length more ≡ k = ap length e ∙ simp (length-take, length-drop) (omega arith) in
     let lp : length (take p bytes) ≡ p = simp length-take (omega arith) in
@@ -25,3 +25,8 @@ joined_more was mid is bytes more p k (Err f) g e h s a =
     let l : length more ≡ k = ap length e ∙ simp (length-take, length-drop) (omega arith) in
     let lp : length (take p bytes) ≡ p = simp length-take (omega arith) in
     absurd (omega (arith, a.0, g.space))
+
+-- one stretch that was read is joined, up to the place q
+pub stretch_joined : (was mid is : Meaning) (bytes b after : List ℕ) (p r k q : ℕ) (a : Result (Unit {0}) Fault) → Grown was (take p bytes) mid → Filled bytes p b r after → k ≤ r → p + k ≡ q → q ≤ length bytes → q ≤ was.space → Appends mid (take k after) a is → Grown was (take q bytes) is
+stretch_joined was mid is bytes b after p r k q a g f h e l s j =
+    rw (sym e) (joined_more was mid is bytes (take k after) p k a g (filled_front bytes b after p r k h f) (omega (arith, e, l)) (omega (arith, e, s)) j)

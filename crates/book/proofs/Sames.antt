@@ -41,11 +41,10 @@ module _ (bytes : Bytes) (a b : ℕ) where
       let c : count ≡ n + (count - n) = omega arith in
       ap alike c ∙ alike_more n (count - n) (omega arith) (omega arith) ∙ ap (λ x. x && same (take (count - n) (drop (a + n) bytes)) (take (count - n) (drop (b + n) bytes))) e
 
--- two windows that were filled are compared as the bytes that they show
-pub windows_same : (bytes one other was was' : Bytes) (p q r r' m : ℕ) → m ≤ r → m ≤ r' → Filled bytes p was r one → Filled bytes q was' r' other →
-    same (take (m - 0) one) (take (m - 0) other) ≡ same (take m (drop p bytes)) (take m (drop q bytes))
-windows_same bytes one other was was' p q r r' m h k f f' =
-    let z : m - 0 ≡ m = omega arith in
-    ap (λ n. same (take n one) (take n other)) z
-    ∙ ap (λ t. same t (take m other)) (filled_front bytes was one p r m h f)
-    ∙ ap (same (take m (drop p bytes))) (filled_front bytes was' other q r' m k f')
+-- one stretch more, of which two windows were filled and compared
+pub stretch_alike : (bytes one other was was' : Bytes) (a b n m r r' : ℕ) (x : Bool) → m ≤ r → m ≤ r' → a + (n + m) ≤ length bytes → b + (n + m) ≤ length bytes → Filled bytes (a + n) was r one → Filled bytes (b + n) was' r' other →
+    alike bytes a b n ≡ true → x ≡ same (take m one) (take m other) → alike bytes a b (n + m) ≡ x
+stretch_alike bytes one other was was' a b n m r r' x h k l l' f f' e q =
+    let front = filled_front bytes was one (a + n) r m h f in
+    let front' = filled_front bytes was' other (b + n) r' m k f' in
+    alike_step bytes a b n m x l l' e (ap (λ t. same t (take m (drop (b + n) bytes))) (sym front) ∙ ap (same (take m one)) (sym front') ∙ sym q)

@@ -39,7 +39,7 @@ pub enum Call<'a> {
 }
 
 impl Call<'_> {
-    // The number that the call names, 0 if none.
+    // The number that the call names, 0 if none: the definitions and the printed fault have 0 there.
     pub fn number(&self) -> usize
         ensures { result ≡ number_of self.now }
     {
@@ -49,7 +49,7 @@ impl Call<'_> {
         }
     }
 
-    // Whether the call is shown a spent slip.
+    // Whether the call is shown a spent slip: false if it is shown none, as the definitions have it.
     pub fn is_spent(&self) -> bool
         ensures { result ≡ shows_spent self.now }
     {

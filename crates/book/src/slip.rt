@@ -12,6 +12,7 @@ impl Drop for Slip {
     fn drop(self)
         requires { self.spent ≡ true }
     {
+        // tried `Slip { .. }`: that lets `self` go whole, and so would call `drop` again
         let Slip { spent: _ } = self;
     }
 }

@@ -6,7 +6,8 @@ use crate::layer::Layer;
 use crate::reason::Reason;
 use std::fmt;
 
-// What was refused, the layer that met it, the place, counted in the file or in the bytes given, and the object number checked or named, 0 if none.
+// What was refused, the layer that met it, the place, counted in the file or in the bytes given, and the object number checked or named,
+// 0 if none: the definitions and the printed fault have 0 there.
 #[derive(Clone, Copy, PartialEq, Eq, Debug)]
 pub struct Fault {
     pub reason: Reason,

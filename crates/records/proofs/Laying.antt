@@ -1,5 +1,5 @@
 -- The cells of rows, and the table that is laid of them, number by number.
-use Rattle.std.proofs.Common.{◌≡◌, ℕ, zero, suc, ◌+◌, ◌-◌, ◌<◌, ◌≤◌, Bool, true, false, ◌&&◌, eqb, List, [], ◌∷◌, ◌++◌, length, get_or, drop, Bor, MatchOption, Option, Some, None, sym, refl, ap, ◌∙◌, ⊎_elim, append_assoc, add-one, arith}
+use Rattle.std.proofs.Common.{◌≡◌, ℕ, zero, suc, ◌+◌, ◌-◌, ◌<◌, ◌≤◌, Bool, true, false, ◌&&◌, eqb, List, [], ◌∷◌, ◌++◌, length, get_or, drop, Bor, IsSomeAnd, MatchOption, Option, Some, None, sym, refl, ap, ◌∙◌, ⊎_elim, append_assoc, add-one, arith}
 use Rattle.std.proofs.lemmas.List.{append-nil, get_or_append_left, get_or-drop, length-drop}
 use Rattle.format.specs.Bytes.{Bytes}
 use Rattle.format.specs.Revisions.{State, find, nth, either, used_with, root_fits, covered}
@@ -89,9 +89,14 @@ found_pair n (x ∷ xs) =
     (λ q. let e : eqb x.0 n ≡ true = eqb_turned x.0 n ∙ q in rw (e, q, find) refl)
     (λ q. let e : eqb x.0 n ≡ false = eqb_turned x.0 n ∙ q in rw (e, q, find) (found_pair n xs))
 
-pub found_cell : (n : ℕ) (new : List (ℕ × Cell)) (o : Option (Bor (ℕ × Cell))) → option_map (λ (x : Bor (ℕ × Cell)). x.now) o ≡ List.find (λ (c : ℕ × Cell). eqb c.0 n) new → option_map (λ (x : Bor (ℕ × Cell)). x.now.1) o ≡ find n new
+found_cell : (n : ℕ) (new : List (ℕ × Cell)) (o : Option (Bor (ℕ × Cell))) → option_map (λ (x : Bor (ℕ × Cell)). x.now) o ≡ List.find (λ (c : ℕ × Cell). eqb c.0 n) new → option_map (λ (x : Bor (ℕ × Cell)). x.now.1) o ≡ find n new
 found_cell n new None e = ap (option_map (λ (c : ℕ × Cell). c.1)) e ∙ found_pair n new
 found_cell n new (Some x) e = ap (option_map (λ (c : ℕ × Cell). c.1)) e ∙ found_pair n new
+
+pub cell_found : (n : ℕ) (new : List (ℕ × Cell)) (o : Option (Bor (ℕ × Cell))) (r : Option Cell) → option_map (λ (x : Bor (ℕ × Cell)). x.now) o ≡ List.find (λ (c : ℕ × Cell). eqb c.0 n) new → MatchOption o (r ≡ None) (λ x. IsSomeAnd r (λ c. c ≡ x.now.1)) → r ≡ find n new
+cell_found n new None r e m = m ∙ found_cell n new None e
+cell_found n new (Some x) None e m = absurd m
+cell_found n new (Some x) (Some c) e m = ap {B = Option Cell} (λ y. Some y) m ∙ found_cell n new (Some x) e
 
 none_same : (n : ℕ) (new : List (ℕ × Cell)) (rows : List Row) → numbers_in new ≡ numbers_of rows → find n new ≡ None → find n (rows_of rows) ≡ None
 unfolding find
@@ -128,20 +133,19 @@ lay_on items was first size n new c h e l =
     ∙ ap (λ (t : List Cell). items ++ t) (ap (λ (m : ℕ). c ∷ laid (size - (n + 1)) m new (drop first was)) (add-one n) ∙ sym (laid_step (size - (n + 1)) n new (drop first was) c e) ∙ ap (λ (m : ℕ). laid m n new (drop first was)) (sym a))
     ∙ l
 
-pub lay_listed : (items was : List Cell) (first size n : ℕ) (new : List (ℕ × Cell)) (c : Cell) → n < size → Some c ≡ find n new → Laying items was first size n new → Laying (items ++ c ∷ []) was first size (n + 1) new
+lay_listed : (items was : List Cell) (first size n : ℕ) (new : List (ℕ × Cell)) (c : Cell) → n < size → Some c ≡ find n new → Laying items was first size n new → Laying (items ++ c ∷ []) was first size (n + 1) new
 lay_listed items was first size n new c h e l = lay_on items was first size n new c h (ap (λ o. either o (nth n (drop first was))) (sym e)) l
 
 -- the cell before is still there, since the cells only grow
 kept_cell : (items was more rest : List Cell) (i : ℕ) (d : Cell) → items ++ more ≡ was ++ rest → i < length items → i < length was → get_or items i d ≡ get_or was i d
 kept_cell items was more rest i d e a b = sym (get_or_append_left items more d i a) ∙ ap (λ (t : List Cell). get_or t i d) e ∙ get_or_append_left was rest d i b
 
-pub lay_before : (items was seen : List Cell) (first size n : ℕ) (new : List (ℕ × Cell)) (d : Cell) → seen ≡ items → n < size → None ≡ find n new → first + n < length was → first + n < length items →
-    Laying items was first size n new → Laying (items ++ get_or seen (first + n) d ∷ []) was first size (n + 1) new
-lay_before items was seen first size n new d s h e b a l =
-    let k : get_or items (first + n) d ≡ get_or seen (first + n) d = ap (λ (t : List Cell). get_or t (first + n) d) (sym s) in
-    let g : get_or (drop first was) n d ≡ get_or seen (first + n) d = get_or-drop first was n d ∙ sym (kept_cell items was _ _ (first + n) d l a b) ∙ k in
-    let z : nth n (drop first was) ≡ Some (get_or seen (first + n) d) = nth_at n (drop first was) d (simp length-drop (omega arith)) ∙ ap Some g in
-    lay_on items was first size n new (get_or seen (first + n) d) h (ap (λ o. either o (nth n (drop first was))) (sym e) ∙ z) l
+lay_before : (items was : List Cell) (first size n : ℕ) (new : List (ℕ × Cell)) (d : Cell) → n < size → None ≡ find n new → first + n < length was → first + n < length items →
+    Laying items was first size n new → Laying (items ++ get_or items (first + n) d ∷ []) was first size (n + 1) new
+lay_before items was first size n new d h e b a l =
+    let g : get_or (drop first was) n d ≡ get_or items (first + n) d = get_or-drop first was n d ∙ sym (kept_cell items was _ _ (first + n) d l a b) in
+    let z : nth n (drop first was) ≡ Some (get_or items (first + n) d) = nth_at n (drop first was) d (simp length-drop (omega arith)) ∙ ap Some g in
+    lay_on items was first size n new (get_or items (first + n) d) h (ap (λ o. either o (nth n (drop first was))) (sym e) ∙ z) l
 
 pub lay_end : (items was : List Cell) (first size n : ℕ) (new : List (ℕ × Cell)) → size ≤ n → Laying items was first size n new → items ≡ was ++ laid size 0 new (drop first was)
 unfolding laid
@@ -149,5 +153,13 @@ lay_end items was first size n new h l =
     let z : size - n ≡ 0 = omega arith in
     sym (append-nil items) ∙ ap (λ (t : List Cell). items ++ t) (sym (ap (λ (m : ℕ). laid m n new (drop first was)) z)) ∙ l
 
-pub lay_by : (items was after : List Cell) (first size n : ℕ) (new : List (ℕ × Cell)) (c x : Cell) → after ≡ items ++ c ∷ [] → c ≡ x → Laying (items ++ x ∷ []) was first size n new → Laying after was first size n new
+lay_by : (items was after : List Cell) (first size n : ℕ) (new : List (ℕ × Cell)) (c x : Cell) → after ≡ items ++ c ∷ [] → c ≡ x → Laying (items ++ x ∷ []) was first size n new → Laying after was first size n new
 lay_by items was after first size n new c x e q l = rw (e, q) l
+
+-- the cell that comes next: the one that is listed, or else the one before
+pub lay_told : (items was after : List Cell) (first size n : ℕ) (new : List (ℕ × Cell)) (o : Option Cell) (c : Cell) → n < size → o ≡ find n new → (find n new ≡ None → (first + n < length was) × (first + n < length items)) →
+    MatchOption o (c ≡ get_or items (first + n) c) (λ x. c ≡ x) → after ≡ items ++ c ∷ [] → Laying items was first size n new → Laying after was first size (n + 1) new
+lay_told items was after first size n new None c h e k m q l =
+    let there = k (sym e) in
+    lay_by items was after first size (n + 1) new c (get_or items (first + n) c) q m (lay_before items was first size n new c h e there.0 there.1 l)
+lay_told items was after first size n new (Some x) c h e k m q l = lay_by items was after first size (n + 1) new c x q m (lay_listed items was first size n new x h e l)

@@ -1,5 +1,6 @@
 -- Tables one behind the other.
-use Rattle.std.proofs.Common.{◌≡◌, ℕ, suc, ◌+◌, ◌-◌, ◌*◌, ◌<◌, ◌≤◌, List, [], ◌∷◌, ◌++◌, length, get_or, sym, refl, ap, ◌∙◌, arith}
+use Rattle.std.proofs.Common.{◌≡◌, ℕ, suc, ◌+◌, ◌-◌, ◌*◌, ◌<◌, ◌≤◌, List, [], ◌∷◌, ◌++◌, length, get_or, Bor, MatchOption, Option, Some, None, sym, refl, ap, ◌∙◌, arith}
+use Rattle.std.specs.Slice.{IsGetResult}
 use Rattle.entries.specs.declared.cell.Cell.{Cell}
 use Rattle.entries.specs.declared.revision.Revision.{Revision}
 use Rattle.entries.specs.Tables.{Stacked}
@@ -32,7 +33,7 @@ small_push [] r a h = (h, tt)
 small_push (q ∷ rs) r a h = (a.0, small_push rs r a.1 h)
 
 -- the last revision's start
-pub last_none : (n : ℕ) (rs : List Revision) → length rs ≡ 0 → last_first n rs ≡ n
+last_none : (n : ℕ) (rs : List Revision) → length rs ≡ 0 → last_first n rs ≡ n
 unfolding last_first
 last_none n [] h = refl
 last_none n (r ∷ rs) h = absurd (omega arith)
@@ -46,8 +47,12 @@ last_some n (r ∷ q ∷ rs) d h =
     let e : length (r ∷ q ∷ rs) - 1 ≡ suc (length (q ∷ rs) - 1) = omega arith in
     rw e w
 
-pub last_read : (n : ℕ) (rs slice : List Revision) (x : Revision) → slice ≡ rs → 0 < length slice → ((d : Revision) → x ≡ get_or slice (length slice - 1) d) → x.first ≡ last_first n rs
+last_read : (n : ℕ) (rs slice : List Revision) (x : Revision) → slice ≡ rs → 0 < length slice → ((d : Revision) → x ≡ get_or slice (length slice - 1) d) → x.first ≡ last_first n rs
 last_read n rs slice x e h at = ap (λ (r : Revision). r.first) (at x) ∙ sym (last_some n slice x h) ∙ ap (last_first n) e
+
+pub newest_told : (n len : ℕ) (rs slice : List Revision) (o : Option (Bor Revision)) (k : ℕ) → slice ≡ rs → IsGetResult slice 0 (length slice - 1) o → MatchOption o (k ≡ len) (λ x. k ≡ x.now.first) → len ≡ n → k ≡ last_first n rs
+newest_told n len rs slice None k e i m h = m ∙ h ∙ sym (last_none n rs (let l = ap length e in omega (arith, i.3)))
+newest_told n len rs slice (Some x) k e i m h = m ∙ last_read n rs slice x.now e i.3.0 i.3.1
 
 -- no tables
 pub tabled_none : (rs : List Revision) (cells : List Cell) → rs ≡ [] → cells ≡ [] → Tabled rs cells

@@ -43,7 +43,8 @@ fn newest_offset<S: Store>(store: &S, window: &mut Window) -> Option<u64>
     last_offset(window.seen())
 }
 
-// Reads the revisions of the sections whose offsets are held, the oldest first, into tables that are empty.
+// Reads the revisions of the sections whose offsets are held, the oldest first, into tables that are empty. The memory for reading and the tables are
+// two values: every question is asked of the tables alone, which stand when reading is over.
 fn read_revisions<S: Store>(
     store: &S,
     scratch: &mut Scratch,

@@ -12,6 +12,7 @@ use faults::fault::Fault;
 use stores::store::Store;
 
 // Reads the revision that the section at `offset` makes behind those in the tables, and adds its table. Where it is refused the tables stay as they are.
+// Memory for reading and tables are two values here too: every question is asked of the tables alone.
 pub fn read_revision<S: Store>(
     store: &S,
     scratch: &mut Scratch,

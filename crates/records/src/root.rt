@@ -14,14 +14,7 @@ use entries::entry::{Entry, Row};
 fn is_used_with(cell: &Cell, generation: u32) -> bool
     ensures { (file : Bytes) → result ≡ used_with generation (state_in file cell.now) }
 {
-    // tried: of an `if` in `matches!` the proof learns nothing; so here, and below
-    match cell {
-        Cell::Used {
-            generation: held,
-            ..
-        } => *held == generation,
-        Cell::Free { .. } => false,
-    }
+    matches!(cell, Cell::Used { generation: held, .. } if *held == generation)
 }
 
 // The cell at `n` is in use with that generation.
@@ -33,15 +26,14 @@ fn used_at(n: usize, generation: u32, cells: &[Cell]) -> bool
         .is_some_and(|cell| is_used_with(cell, generation))
 }
 
-// Root is in use with its generation, by its row or, where it has none, in the table before.
+// Root, which a trailer gives as a number and a generation, is in use with that generation, by its row or, where it has none, in the table before.
 pub fn root_fits(root: u32, root_generation: u32, rows: &[Row], old: &[Cell]) -> bool
     ensures { (file : Bytes) → result ≡ root_fits root root_generation (rows_of rows.now) (states_in file old.now) }
 {
     match find_row(rows, u64::from(root)) {
-        Some(i) => match rows[i].entry {
-            Entry::Used { generation, .. } => generation == root_generation,
-            Entry::Free { .. } => false,
-        },
+        Some(i) => {
+            matches!(rows[i].entry, Entry::Used { generation, .. } if generation == root_generation)
+        }
         // there is no `From` of `u32` for `usize`
         None => used_at(root as usize, root_generation, old),
     }

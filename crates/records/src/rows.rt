@@ -20,7 +20,7 @@ const HIGHEST_USED: u32 = 65_534;
 
 const HIGHEST_FREE: u32 = 65_535;
 
-// A rule of the chain or of a table is broken: in the section at `offset`, for that object, 0 if none.
+// A rule of the chain or of a table is broken: in the section at `offset`, for that object, 0 if none, as the definitions and the printed fault have it.
 pub fn broken_rule(offset: usize, number: u64) -> Fault
     ensures { result ≡ chain_fault ChainRule offset number }
 {
@@ -96,7 +96,8 @@ pub fn highest(old: usize, rows: &[Row]) -> usize
         .fold(old, |size, row| size.max(row.number as usize + 1))
 }
 
-// The place of the first row of a number.
+// The place of the first row of a number, searched from the front: the rows of a section ascend, but no fact of the list says it, and a map would take
+// memory after opening. There are at most 1,638 rows.
 pub fn find_row(rows: &[Row], n: u64) -> Option<usize>
     ensures is { result ≡ place_from 0 n (numbers_of rows.now) }
     ensures within { IfSome result (λ i. i < length rows.now) }
@@ -104,7 +105,7 @@ pub fn find_row(rows: &[Row], n: u64) -> Option<usize>
     rows.iter().position(|row| row.number == n)
 }
 
-// Every number below Size is listed, or stood in the table before, which had `old` numbers.
+// Every number below Size is listed, or stood in the table before, which had `old` numbers: at most 1,000 numbers, each searched as above.
 pub fn covered(size: usize, rows: &[Row], old: usize) -> bool
     ensures { result ≡ covered size 0 (rows_of rows.now) old }
 {

@@ -8,16 +8,15 @@ use crate::revision_tables::MOST_CELLS;
 use entries::cell::Cell;
 use entries::reserved::Reserved;
 
-// The cell that is listed for a number, the first where there are several.
+// The cell that is listed for a number, the first where there are several: searched from the front, as in `find_row`.
 fn listed_cell(listed: &[(u64, Cell)], n: u64) -> Option<Cell>
     ensures { result ≡ find n listed.now }
 {
-    let found = listed.iter().find(|row| row.0 == n)?;
-    Some(found.1)
+    listed.iter().find(|row| row.0 == n).map(|row| row.1)
 }
 
 // Adds a table of that Size behind the cells: for each number the cell that is listed or, where there is none, its cell in the table before,
-// which is the last one and starts at `first`.
+// which is the last one and starts at `first`. The place, the Size and the list have three sources, and meet here alone.
 pub fn lay(
     cells: &mut Reserved<Cell, MOST_CELLS>,
     first: usize,
@@ -33,10 +32,8 @@ pub fn lay(
     // the cells are read while they grow, so no iterator lends them
     for n in 0..size {
         // there is no `From` of `usize` for `u64`
-        let cell = match listed_cell(listed, n as u64) {
-            Some(cell) => cell,
-            None => cells.as_slice()[first + n],
-        };
+        let held = cells.as_slice();
+        let cell = listed_cell(listed, n as u64).unwrap_or_else(|| held[first + n]);
         cells.push(cell);
     }
 }

@@ -50,6 +50,7 @@ mod tests {
 
     // The cause alone.
     fn cause<S: Drop, C>(stopped: Stopped<S, C>) -> C {
+        // tried `..`: what is not `Drop` is taken apart whole; so is `Work` below
         let Stopped {
             store: _,
             memory: _,

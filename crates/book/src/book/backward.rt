@@ -20,6 +20,7 @@ impl<S: Store> Book<S> {
             return Err(Fault::refused(Reason::NoRevision, 0));
         };
         let cells = cells_end(self.memory.tables.cells(), row);
+        // proved accepted: every revision ends within the file
         let _ = self.store.cut(row.end);
         self.memory.tables.cut(k, cells);
         Ok(())

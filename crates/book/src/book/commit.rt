@@ -10,19 +10,12 @@ use crate::call::Phase;
 use crate::rows::{cells_of, last_row};
 use faults::fault::Fault;
 use faults::reason::Reason;
+use records::open::{FILE_BYTES, SECTION_BYTES};
 use records::revision::read_revision;
+use records::revision_tables::{MOST_REVISIONS, MOST_SIZE};
 use records::trailer::read_trailer;
 use stores::store::Store;
 use writer::newest::Newest;
-
-// The most revisions, the highest Size, the most bytes of a file and of a section.
-const MOST_REVISIONS: usize = records::revision_tables::MOST_REVISIONS;
-
-const MOST_SIZE: usize = records::revision_tables::MOST_SIZE;
-
-const MOST_BYTES: usize = records::open::FILE_BYTES;
-
-const MOST_SECTION: usize = records::open::SECTION_BYTES;
 
 impl<S: Store> Book<S> {
     // Writes the open update behind the file, all or nothing, and reads it back into the tables.
@@ -33,6 +26,7 @@ impl<S: Store> Book<S> {
         let objects = self.draft();
         self.check_commit(objects)?;
         let offset = self.store.len() + objects;
+        // both proved accepted: every check of the update was made
         let _ = self.store.append(self.memory.writer.as_slice());
         let _ = read_revision(
             &self.store,
@@ -81,10 +75,10 @@ impl<S: Store> Book<S> {
         if row.size + self.memory.held.new_numbers(row.size) > MOST_SIZE {
             return Err(Fault::refused(Reason::PastLimits, 0));
         }
-        if added > MOST_BYTES - self.store.len() {
+        if added > FILE_BYTES - self.store.len() {
             return Err(Fault::refused(Reason::PastLimits, 0));
         }
-        if added - objects > MOST_SECTION {
+        if added - objects > SECTION_BYTES {
             return Err(Fault::refused(Reason::PastLimits, 0));
         }
         if added > self.store.space() {

@@ -53,11 +53,7 @@ impl<S: Store> Book<S> {
     pub fn into_parts(self) -> (S, Memory)
         ensures { result.0 ≡ store_in self }
     {
-        let Book {
-            store,
-            phase: _,
-            memory,
-        } = self;
+        let Book { store, memory, .. } = self;
         (store, memory)
     }
 }

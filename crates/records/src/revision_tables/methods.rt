@@ -74,10 +74,9 @@ impl Tables {
         ensures within { result ≤ length (cells_held self.now) }
         ensures small { length (cells_held self.now) ≤ result + 1000 }
     {
-        match self.revisions().last() {
-            None => self.cells.len(),
-            Some(revision) => revision.first,
-        }
+        self.revisions()
+            .last()
+            .map_or(self.cells.len(), |revision| revision.first)
     }
 
     // The cells of the newest table, and none where there is none.
@@ -89,7 +88,7 @@ impl Tables {
         &self.cells()[self.newest_start()..self.cells.len()]
     }
 
-    // A table more: of a revision of that Size whose section lists these cells.
+    // A table more: of a revision of that Size whose section lists these cells. What the checks and the reading of its objects give meets here alone.
     pub(crate) fn push(&mut self, link: Link, size: usize, listed: &[(u64, Cell)])
         requires few { length (revisions_held self.old) < 64 }
         requires tabled { Tabled (revisions_held self.old) (cells_held self.old) }

@@ -5,5 +5,5 @@ use Rattle.records.proofs.table.lay.Given as goal
 
 abbrev pub invariant-loop-n : goal.invariant-loop-n
 invariant-loop-n l =
-    (length (items_of l.cells) ≡ length (items_of l.initial.cells) + l.n)
-    × Laying (items_of l.cells) (items_of l.initial.cells) l.first l.size l.n l.listed
+    (length (items_of l.cells) ≡ length (items_of l.initial.cells) + l.n-counter)
+    × Laying (items_of l.cells) (items_of l.initial.cells) l.first l.size l.n-counter l.listed

@@ -74,8 +74,8 @@ returns-then-added-len g c =
     let long = ap length c.requires.drafted.bytes in
     ap Err c.refused-then-added-len.ensures ∙ sym (D.long some (omega (arith, c.len-3.ensures, c.len-added.ensures, long)))
 
-pub returns-then-added-objects-gt-MOST_SECTION : goal.returns-then-added-objects-gt-MOST_SECTION
-returns-then-added-objects-gt-MOST_SECTION g c =
+pub returns-then-added-objects-gt-SECTION_BYTES : goal.returns-then-added-objects-gt-SECTION_BYTES
+returns-then-added-objects-gt-SECTION_BYTES g c =
     let b = c.args.self.now in
     let s = g.S.Store.meaning b.store in
     let D = decided s (update_in b) in
@@ -84,7 +84,7 @@ returns-then-added-objects-gt-MOST_SECTION g c =
     let known = bounded s.bytes (revisions_in b) (cells_in b) st in
     let size = newest_sized g.S.Store.meaning b c.args.self.now.sound c.requires.updating _ c.revisions.ensures c.last_row-row.result c.last_row-row.ensures in
     let long = ap length c.requires.drafted.bytes in
-    ap Err c.refused-then-added-objects-gt-MOST_SECTION.ensures ∙ sym (D.wide some (omega (arith, c.len-added.ensures, long, c.requires.drafted.count)))
+    ap Err c.refused-then-added-objects-gt-SECTION_BYTES.ensures ∙ sym (D.wide some (omega (arith, c.len-added.ensures, long, c.requires.drafted.count)))
 
 pub returns-then-added-space : goal.returns-then-added-space
 returns-then-added-space g c =
