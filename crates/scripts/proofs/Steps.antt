@@ -23,15 +23,15 @@ use Rattle.scripts.proofs.Small.{head_small}
 abbrev pub Numbered : {T : Type 0} → ℕ → Result T Mistake → Result T ScriptError → Type 0
 Numbered k r s = MatchResult r (λ x. s ≡ Ok x) (λ m. IsErrAnd s (λ e. e ≡ wrong_at k m))
 
-pub numbered_ok : {T : Type 0} (k : ℕ) (r : Result T Mistake) (s : Result T ScriptError) (x : T) → Numbered k r s → s ≡ Ok x → r ≡ Ok x
-numbered_ok k (Ok y) s x m e = cc
-numbered_ok k (Err f) (Ok y) x m e = absurd m
-numbered_ok k (Err f) (Err g) x m e = clash (cc)
+pub numbered_ok : {T : Type 0} (k : ℕ) (r : Result T Mistake) (s : Result T ScriptError) (x : T) {q : Result T Mistake} → r ≡ q → Numbered k r s → s ≡ Ok x → q ≡ Ok x
+numbered_ok k (Ok y) s x w m e = cc
+numbered_ok k (Err f) (Ok y) x w m e = absurd m
+numbered_ok k (Err f) (Err g) x w m e = clash (cc)
 
-pub numbered_err : {T : Type 0} (k : ℕ) (r : Result T Mistake) (s : Result T ScriptError) (g : ScriptError) → Numbered k r s → s ≡ Err g → (m : Mistake) × (r ≡ Err m) × (g ≡ wrong_at k m)
-numbered_err k (Ok y) s g m e = clash (cc)
-numbered_err k (Err f) (Ok y) g m e = absurd m
-numbered_err k (Err f) (Err h) g m e = let i : g ≡ h = cc in (f, refl, i ∙ m)
+pub numbered_err : {T : Type 0} (k : ℕ) (r : Result T Mistake) (s : Result T ScriptError) (x : ScriptError) {q : Result T Mistake} → r ≡ q → Numbered k r s → s ≡ Err x → (m : Mistake) × (q ≡ Err m) × (x ≡ wrong_at k m)
+numbered_err k (Ok y) s x w m e = clash (cc)
+numbered_err k (Err f) (Ok y) x w m e = absurd m
+numbered_err k (Err f) (Err h) x w m e = let i : x ≡ h = cc in (f, sym w, i ∙ m)
 
 -- a line that says nothing
 pub nothing_said : (k : ℕ) (l : Bytes) (ls : List Bytes) → head_of l ≡ Ok None → items_of between k (l ∷ ls) ≡ items_of between (suc k) ls

@@ -10,13 +10,14 @@ use crate::dots::add_text;
 use crate::script::Script;
 use std::alloc::{AllocError, Global};
 
-// Appends a number in decimal. `write!` into a Vec fails by an `io::Error`, and all that can fail here is to get memory.
+// Appends a number in decimal. `write!` into a Vec fails by an `io::Error`, and all that can fail here is to get memory: the writer's `decimal` goes
+// into a draft, which has it already.
 fn add_decimal(out: &mut Vec<u8>, n: u64) -> Result<(), AllocError>
     requires { n < 10 ^ 10 }
     ensures { OnOk result (out.new.items ≡ out.old.items ++ decimal n) }
 {
     if n < 10 {
-        // `as`: what is cast is below 10, and `u8::try_from` would have an answer to what cannot be.
+        // `as`, here and below: what is cast is below 10, and `u8::try_from` would have an answer to what cannot be.
         out.push(b'0' + n as u8)?;
         return Ok(());
     }
@@ -37,7 +38,7 @@ fn add_head(out: &mut Vec<u8>, word: &[u8], n: u64) -> Result<(), AllocError>
 }
 
 // Appends a change.
-fn add_change(out: &mut Vec<u8>, number: u64, change: &Change) -> Result<(), AllocError>
+fn add_change(out: &mut Vec<u8>, number: u64, change: &Change<Vec<u8>>) -> Result<(), AllocError>
     requires { number < 10 ^ 10 }
     ensures { OnOk result (out.new.items ≡ out.old.items ++ change_bytes number (change_of change.now)) }
 {
