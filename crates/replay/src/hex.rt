@@ -10,7 +10,7 @@ use std::alloc::{AllocError, Global};
 // The hex digit that stands for ten.
 const TEN: u8 = b'a';
 
-// The number that a digit writes.
+// The number that a digit writes. Capitals are refused here, which the lexer's `hex_digit` takes.
 fn nibble(c: u8) -> Option<u8>
     ensures { MatchOption result (HexDigit c → ⊥) (λ n. (n < 16) × (digit_of n ≡ c) × HexDigit c) }
 {

@@ -42,6 +42,8 @@ impl Pile {
     }
 
     // A store that no overlay may cover stands again, so its refusal goes beside the pile and not by `?`.
+    // The two arms with a store are alike but for its type. A helper over any store would take the makers of both piles, and its clause would have to say
+    // of each what it makes: that is longer than the arm it saves.
     fn overlaid(self) -> (Pile, Result<(), Setback>)
         ensures { Laid self result.1 result.0 }
     {
@@ -62,7 +64,7 @@ impl Pile {
         }
     }
 
-    // A call of the topmost store.
+    // A call of the topmost store. The arms are alike but for its type: a `&mut dyn Store` would have to be taken out of the pile by the same arms.
     pub fn call(&mut self, heap: Global, call: &Call) -> Answer
         ensures { PileCalled self.old call.now result self.new }
     {

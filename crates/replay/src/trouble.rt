@@ -38,6 +38,7 @@ impl Trouble {
     }
 }
 
+// By hand, as clauses name what `?` makes of an error: a derived `From` has no contract.
 impl From<AllocError> for Trouble {
     ghost from_gives = { λ _ t. t ≡ NoMemory };
 

@@ -1,3 +1,4 @@
 mod Listed
 mod Between
 mod Telling
+mod Grouped

@@ -17,25 +17,12 @@ pub fn runs(heap: Global, numbers: &[usize]) -> Result<Vec<Run>, AllocError>
     ensures whole { IfOk result (λ v. flat_map numbers_in v.items ≡ numbers.now) }
 {
     let mut all = Vec::new(heap);
-    let Some((start, rest)) = numbers.split_first() else {
-        return Ok(all);
-    };
-    let mut run = Run {
-        first: *start,
-        last: *start,
-    };
-    for n in rest {
-        if follows(run.last, *n) {
-            run.last = *n;
-        } else {
-            all.push(run)?;
-            run = Run {
-                first: *n,
-                last: *n,
-            };
-        }
+    for run in numbers.chunk_by(|last, n| follows(*last, *n)) {
+        all.push(Run {
+            first: run[0],
+            last: run[run.len() - 1],
+        })?;
     }
-    all.push(run)?;
     Ok(all)
 }
 

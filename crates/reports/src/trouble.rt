@@ -5,6 +5,7 @@ ghost use Rattle.reports.specs.declared.trouble.Trouble.TheVariants.{NoMemory, R
 use faults::fault::Fault;
 use std::alloc::AllocError;
 
+// `WorkError` of crate `runs` has the same two cases, but neither crate stands on the other, and in `book`, below both, no call has both answers.
 #[derive(Clone, Copy, PartialEq, Eq, Debug)]
 pub enum Trouble {
     NoMemory,

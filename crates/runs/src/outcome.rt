@@ -16,7 +16,8 @@ pub struct Work<S: Store> {
     pub answers: Vec<Result<(), Fault>>,
 }
 
-// Why no call was made.
+// Why no call was made. `Trouble` of crate `reports` has the same two cases, but neither crate stands on the other, and in `book`, below both, no
+// call has both answers.
 #[derive(Clone, Copy, Debug, PartialEq, Eq)]
 pub enum WorkError {
     // there is no memory for the answers

@@ -2,6 +2,7 @@
 use Rattle.std.proofs.Common.{◌≡◌, ℕ, suc, ◌^◌, ◌<◌, ◌≤◌, true, false, ◌&&◌, eqb, ltb, leb, List, [], ◌∷◌, is_some, sym, refl, ap, arith}
 use Rattle.std.proofs.lemmas.Bool.{eqb-true, ne_eqb, ltb-true, lt-ltb, leb-true, le-leb, and_parts, and_from}
 use Rattle.std.specs.BTreeMap.{insert_entry, is_at}
+use Rattle.std.specs.Global.{Vec}
 use Rattle.std.specs.Map.{lookup}
 use Rattle.std.specs.Ordering.{nat_cmp}
 use Rattle.format.specs.Acceptable.{Ascends}
@@ -41,12 +42,12 @@ in_order_fact low (r ∷ rs) a s =
     (in_order_fact (suc r.0) rs a.1 s.1)
 
 -- no change yet
-pub none_in_order : (rs : List (ℕ × Change)) → rs ≡ [] → in_order 0 (rows_of rs) ≡ true
+pub none_in_order : (rs : List (ℕ × Change (Vec ℕ))) → rs ≡ [] → in_order 0 (rows_of rs) ≡ true
 unfolding in_order
 none_in_order rs e = rw e refl
 
 -- the change of a number among those in memory
-pub found_among : (n : ℕ) (es : List (ℕ × Change)) → is_some (lookup (is_at (nat_cmp n)) es) ≡ is_some (find n (rows_of es))
+pub found_among : (n : ℕ) (es : List (ℕ × Change (Vec ℕ))) → is_some (lookup (is_at (nat_cmp n)) es) ≡ is_some (find n (rows_of es))
 unfolding find
 found_among n [] = refl
 found_among n (e ∷ es) =
@@ -58,7 +59,7 @@ found_among n (e ∷ es) =
     (λ a. cases (eqb n e.0) (λ b. rw (a, b, find) refl) (λ b. rw (a, b, find) (found_among n es)))
 
 -- a change that is put among those in memory
-pub with_entry : (n : ℕ) (c : Change) (es : List (ℕ × Change)) → rows_of (insert_entry nat_cmp es n c) ≡ with_change n (change_of c) (rows_of es)
+pub with_entry : (n : ℕ) (c : Change (Vec ℕ)) (es : List (ℕ × Change (Vec ℕ))) → rows_of (insert_entry nat_cmp es n c) ≡ with_change n (change_of c) (rows_of es)
 unfolding with_change
 with_entry n c [] = refl
 with_entry n c (e ∷ es) =

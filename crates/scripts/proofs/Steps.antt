@@ -1,11 +1,14 @@
 -- One line more: what a script says from a cursor on, by the line that starts there.
-use Rattle.std.proofs.Common.{◌≡◌, ℕ, suc, ◌+◌, ◌-◌, ◌≤◌, List, [], ◌∷◌, ◌++◌, length, take, drop, Some, None, Ok, Err, sym, refl, ap, ◌∙◌, ⊎_elim, add-one, arith, take-add}
+use Rattle.std.proofs.Common.{◌≡◌, ℕ, suc, ◌+◌, ◌-◌, ◌≤◌, List, [], ◌∷◌, ◌++◌, length, take, drop, Some, None, Ok, Err, Result, sym, refl, ap, ◌∙◌, ⊎_elim, add-one, arith, take-add, MatchResult}
 use Rattle.std.proofs.lemmas.List.{drop-drop, drop_all, take-take, length-take-le, length-drop}
+use Rattle.std.specs.Result.{IsErrAnd}
 use Rattle.format.specs.Bytes.{Bytes}
 use Rattle.format.specs.Updates.{body, removed}
+use Rattle.locality.proofs.Tests.{clash}
 use Rattle.scripts.specs.declared.cursor.Cursor.{Cursor}
 use Rattle.scripts.specs.declared.error.Mistake.{Mistake}
 use Rattle.scripts.specs.declared.error.Mistake.TheVariants.{NoEnd}
+use Rattle.scripts.specs.declared.error.ScriptError.{ScriptError}
 use Rattle.scripts.specs.declared.line.BodyLine.TheVariants.{Text, End}
 use Rattle.scripts.specs.declared.line.Head.{Head}
 use Rattle.scripts.specs.declared.line.Head.TheVariants.{Remove, Put}
@@ -15,6 +18,20 @@ use Rattle.scripts.specs.Lines.{lines_of, head_of, body_line_of}
 use Rattle.scripts.specs.Scripts.{Item, change, stop, Where, between, inside, items_of}
 use Rattle.scripts.specs.Walks.{part, HeadRead, LineRead, said, said_at}
 use Rattle.scripts.proofs.Small.{head_small}
+
+-- what is wrong in a line is handed on with the line's number
+abbrev pub Numbered : {T : Type 0} → ℕ → Result T Mistake → Result T ScriptError → Type 0
+Numbered k r s = MatchResult r (λ x. s ≡ Ok x) (λ m. IsErrAnd s (λ e. e ≡ wrong_at k m))
+
+pub numbered_ok : {T : Type 0} (k : ℕ) (r : Result T Mistake) (s : Result T ScriptError) (x : T) {q : Result T Mistake} → r ≡ q → Numbered k r s → s ≡ Ok x → q ≡ Ok x
+numbered_ok k (Ok y) s x w m e = cc
+numbered_ok k (Err f) (Ok y) x w m e = absurd m
+numbered_ok k (Err f) (Err g) x w m e = clash (cc)
+
+pub numbered_err : {T : Type 0} (k : ℕ) (r : Result T Mistake) (s : Result T ScriptError) (x : ScriptError) {q : Result T Mistake} → r ≡ q → Numbered k r s → s ≡ Err x → (m : Mistake) × (q ≡ Err m) × (x ≡ wrong_at k m)
+numbered_err k (Ok y) s x w m e = clash (cc)
+numbered_err k (Err f) (Ok y) x w m e = absurd m
+numbered_err k (Err f) (Err h) x w m e = let i : x ≡ h = cc in (f, sym w, i ∙ m)
 
 -- a line that says nothing
 pub nothing_said : (k : ℕ) (l : Bytes) (ls : List Bytes) → head_of l ≡ Ok None → items_of between k (l ∷ ls) ≡ items_of between (suc k) ls
@@ -109,9 +126,9 @@ module _ (was : Cursor) {z : List Item} (said_was : said_at between was ≡ z) w
         ∙ line_on (inside (suc was.lines) n []) was is line r
         ∙ ap (λ k. said_at (inside k n []) is) (sym (r.counted ∙ add-one was.lines))
 
-    pub head_wrong : (m : Mistake) → head_of line ≡ Err m → z ≡ stop (wrong_at is.lines m) ∷ []
-    head_wrong m e =
-        sym first_line ∙ mistake_said _ _ _ m e ∙ ap (λ k. stop (wrong_at k m) ∷ []) (sym (r.counted ∙ add-one was.lines))
+    pub head_wrong : (m : Mistake) (x : ScriptError) → head_of line ≡ Err m → x ≡ wrong_at is.lines m → z ≡ stop x ∷ []
+    head_wrong m x e w =
+        rw w (sym first_line ∙ mistake_said _ _ _ m e ∙ ap (λ k. stop (wrong_at k m) ∷ []) (sym (r.counted ∙ add-one was.lines)))
 
 -- the next line that says something was read, behind others that say nothing
 pub head_found : (start was is : Cursor) (line : Bytes) (h : Head) → said_at between was ≡ said_at between start → LineRead was line is → head_of line ≡ Ok (Some h) → HeadRead start (Ok (Some h)) is
@@ -167,5 +184,5 @@ module _ (src : Bytes) (from s n : ℕ) (was : Cursor) {z : List Item} (of : was
         (part_shorter src from was.place h (omega arith) ∙ ap (λ k. take k (drop from src)) (sym c))
         ∙ ap (λ js. change s n (body (undotted (take count (drop from src)))) ∷ js) (line_on between was is line r)
 
-    pub body_wrong : (m : Mistake) → body_line_of line ≡ Err m → z ≡ stop (wrong_at is.lines m) ∷ []
-    body_wrong m e = read_line ∙ wrong_said _ _ _ _ _ _ m e ∙ ap (λ k. stop (wrong_at k m) ∷ []) (sym (r.counted ∙ add-one was.lines))
+    pub body_wrong : (m : Mistake) (x : ScriptError) → body_line_of line ≡ Err m → x ≡ wrong_at is.lines m → z ≡ stop x ∷ []
+    body_wrong m x e w = rw w (read_line ∙ wrong_said _ _ _ _ _ _ m e ∙ ap (λ k. stop (wrong_at k m) ∷ []) (sym (r.counted ∙ add-one was.lines)))

@@ -1,7 +1,9 @@
 -- Words, numbers and dots at the start of a line.
 use Rattle.std.proofs.Common.{◌≡◌, ℕ, ◌+◌, ◌<◌, ◌≤◌, eqb, [], ◌∷◌, ◌++◌, length, get_or, drop, Some, None, Ok, Err, codes, Option, Result, sym, refl, ap, ◌∙◌, arith, Bor, MatchOption, MatchResult}
 use Rattle.std.proofs.lemmas.List.{at_drop_all, at_drop_more}
-use Rattle.std.proofs.lemmas.Bool.{eq-eqb, ne_eqb, eqb-true}
+use Rattle.std.proofs.Math.Arith.{lt_of_le-ne}
+use Rattle.std.proofs.lemmas.Bool.{eq-eqb, ne_eqb, eqb-true, eqb-false}
+use Rattle.std.specs.Bool.{then_some}
 use Rattle.std.specs.Option.{option_map, IsSomeAnd, ok_or}
 use Rattle.std.specs.Result.{IsOkAnd, result_ok}
 use Rattle.format.specs.Bytes.{Bytes}
@@ -48,14 +50,21 @@ after_is s w None h = sym (behind_none w s h)
 after_is s w (Some x) h = sym (ap (behind w) h ∙ behind_word w x.now)
 
 -- a number that nothing follows
-pub number_whole : (xs : Bytes) (n p e : ℕ) → digits 0 xs ≡ took n p (drop e xs) → length xs ≤ e → number_of xs ≡ Some n
+number_whole : (xs : Bytes) (n p e : ℕ) → digits 0 xs ≡ took n p (drop e xs) → length xs ≤ e → number_of xs ≡ Some n
 unfolding number_of whole
 number_whole xs n p e is h = ap whole is ∙ at_drop_all (λ ys. whole (took n p ys)) xs e h
 
 -- digits that something follows
-pub number_more : (xs : Bytes) (n p e : ℕ) → digits 0 xs ≡ took n p (drop e xs) → e < length xs → number_of xs ≡ None
+number_more : (xs : Bytes) (n p e : ℕ) → digits 0 xs ≡ took n p (drop e xs) → e < length xs → number_of xs ≡ None
 unfolding number_of whole
 number_more xs n p e is h = ap whole is ∙ at_drop_more (λ ys. whole (took n p ys)) xs e 0 h
+
+-- the number, where nothing follows its digits
+pub number_said : (xs : Bytes) (n p e : ℕ) → digits 0 xs ≡ took n p (drop e xs) → e ≤ length xs → then_some (eqb e (length xs)) n ≡ number_of xs
+number_said xs n p e is h =
+    cases (eqb e (length xs))
+    (λ q. let s = eqb-true e (length xs) q in rw q (sym (number_whole xs n p e is (omega arith))))
+    (λ q. let s = eqb-false e (length xs) q in rw q (sym (number_more xs n p e is (lt_of_le-ne h s))))
 
 -- no digits, or too many
 pub number_lacks : (xs : Bytes) (l : Lack) → digits 0 xs ≡ lacking l → number_of xs ≡ None

@@ -1,17 +1,18 @@
 -- What a reader of a script gives.
 use Rattle.std.specs.Prelude.{◌≡◌, ◌^◌, ◌<◌, List, [], ◌∷◌, Some, None, Ok, Err, Option, Result}
-use Rattle.format.specs.Updates.{Change, body, removed}
+use Rattle.std.specs.Borrow.{Bor}
+use Rattle.format.specs.Bytes.{Bytes}
+use Rattle.format.specs.Updates as format
+use Rattle.scripts.specs.declared.change.Change.{Change}
 use Rattle.scripts.specs.declared.error.ScriptError.{ScriptError}
 use Rattle.scripts.specs.declared.found.Found.{Found}
-use Rattle.scripts.specs.declared.found.Spelled.{Spelled}
-use Rattle.scripts.specs.declared.found.Spelled.TheVariants.{Removed, Body}
 use Rattle.scripts.specs.Dots.{undotted}
+use Rattle.scripts.specs.Rows.{change_with}
 use Rattle.scripts.specs.Scripts.{Item, change, stop}
 
 -- the change that is spelled
-abbrev pub spelled_change : Spelled → Change
-spelled_change Removed = removed
-spelled_change (Body t) = body (undotted t.now)
+abbrev pub spelled_change : Change (Bor Bytes) → format.Change
+spelled_change = change_with (λ t. undotted t.now)
 
 abbrev pub item_of : Found → Item
 item_of f = change f.line f.number (spelled_change f.change)

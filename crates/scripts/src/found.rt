@@ -1,12 +1,9 @@
 // A change as a script has it.
 
-// What becomes of the number. A removal is a change of its own, and no body that is lacking.
-#[derive(Clone, Copy)]
-pub enum Spelled<'a> {
-    Removed,
-    // the body's lines, with the dots that the script adds: `crate::dots::add_body` takes them away
-    Body(&'a [u8]),
-}
+use crate::change::Change;
+
+// Its body is the lines, with the dots that the script adds: `crate::dots::add_body` takes them away.
+pub type Spelled<'a> = Change<&'a [u8]>;
 
 // A change, with the line that it starts on.
 #[derive(Clone, Copy)]

@@ -26,7 +26,7 @@ fn number(text: &[u8]) -> Option<u64>
     ensures { result ≡ number_of text.now }
 {
     let (n, end) = digits(Lexer::new(text)).ok()?;
-    if end == text.len() { Some(n) } else { None }
+    (end == text.len()).then_some(n)
 }
 
 // What follows a word, where the line begins with it.
@@ -50,17 +50,13 @@ fn change_head(line: &[u8]) -> Result<Head, Mistake>
 }
 
 // What a line between changes says: nothing, where it is empty or a comment.
-// By tests, since behind a pattern of the first byte the proof does not know what that byte is not.
 pub fn head(line: &[u8]) -> Result<Option<Head>, Mistake>
     ensures { result ≡ head_of line.now }
 {
-    if line.len() == 0 {
-        return Ok(None);
+    match line {
+        [] | [b'#', ..] => Ok(None),
+        _ => change_head(line).map(Some),
     }
-    if line[0] == b'#' {
-        return Ok(None);
-    }
-    change_head(line).map(Some)
 }
 
 // What a line of a body is.

@@ -11,12 +11,13 @@ use crate::script::Script;
 use std::alloc::{AllocError, Global};
 use writer::ten_digits::TenDigits;
 
-// Appends a number in decimal. `write!` into a Vec fails by an `io::Error`, and all that can fail here is to get memory.
+// Appends a number in decimal. `write!` into a Vec fails by an `io::Error`, and all that can fail here is to get memory: the writer's `decimal` goes
+// into a draft, which has it already.
 fn add_decimal(out: &mut Vec<u8>, n: TenDigits) -> Result<(), AllocError>
     ensures { OnOk result (out.new.items ≡ out.old.items ++ decimal n.value) }
 {
     if n.value < 10 {
-        // `as`: what is cast is below 10, and `u8::try_from` would have an answer to what cannot be.
+        // `as`, here and below: what is cast is below 10, and `u8::try_from` would have an answer to what cannot be.
         out.push(b'0' + n.value as u8)?;
         return Ok(());
     }
@@ -36,7 +37,7 @@ fn add_head(out: &mut Vec<u8>, word: &[u8], n: TenDigits) -> Result<(), AllocErr
 }
 
 // Appends a change.
-fn add_change(out: &mut Vec<u8>, number: TenDigits, change: &Change) -> Result<(), AllocError>
+fn add_change(out: &mut Vec<u8>, number: TenDigits, change: &Change<Vec<u8>>) -> Result<(), AllocError>
     ensures { OnOk result (out.new.items ≡ out.old.items ++ change_bytes number.value (change_of change.now)) }
 {
     match change {

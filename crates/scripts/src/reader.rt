@@ -4,9 +4,10 @@ ghost use Rattle.scripts.specs.Readers.{Gave, SmallNumber};
 ghost use Rattle.scripts.specs.Scripts.{between, said_by};
 ghost use Rattle.scripts.specs.Walks.{said_at};
 
+use crate::change::Change;
 use crate::cursor::Cursor;
 use crate::error::ScriptError;
-use crate::found::{Found, Spelled};
+use crate::found::Found;
 use crate::line::Head;
 
 // From where the next change is read.
@@ -40,7 +41,7 @@ impl<'a> Reader<'a> {
                 Ok(Some(Found {
                     line,
                     number,
-                    change: Spelled::Removed,
+                    change: Change::Removed,
                 }))
             }
             Head::Put(number) => {
@@ -49,7 +50,7 @@ impl<'a> Reader<'a> {
                 Ok(Some(Found {
                     line,
                     number,
-                    change: Spelled::Body(text),
+                    change: Change::Body(text),
                 }))
             }
         }

@@ -14,12 +14,12 @@ use std::alloc::{AllocError, Global};
 use std::collections::BTreeMap;
 
 // The change in memory of its own.
-fn owned(heap: Global, spelled: Spelled<'_>) -> Result<Change, AllocError>
+fn owned(heap: Global, spelled: Spelled<'_>) -> Result<Change<Vec<u8>>, AllocError>
     ensures { IfOk result (λ c. change_of c ≡ spelled_change spelled.entry) }
 {
     match spelled {
-        Spelled::Removed => Ok(Change::Removed),
-        Spelled::Body(text) => {
+        Change::Removed => Ok(Change::Removed),
+        Change::Body(text) => {
             let mut bytes = Vec::with_capacity(heap, text.len())?;
             add_body(&mut bytes, text)?;
             Ok(Change::Body(bytes))
@@ -28,7 +28,11 @@ fn owned(heap: Global, spelled: Spelled<'_>) -> Result<Change, AllocError>
 }
 
 // Adds a change where its number has none yet.
-fn add(heap: Global, changes: &mut BTreeMap<u64, Change>, found: Found<'_>) -> Result<(), ReadError>
+fn add(
+    heap: Global,
+    changes: &mut BTreeMap<u64, Change<Vec<u8>>>,
+    found: Found<'_>,
+) -> Result<(), ReadError>
     ensures { Added (rows_of changes.old.entries) found.entry result (rows_of changes.new.entries) }
 {
     if changes.contains_key(&found.number) {

@@ -8,6 +8,6 @@ use std::collections::BTreeMap;
 // The changes by their numbers, which have at most ten digits.
 #[derive(Drop)]
 pub struct Script {
-    pub changes: BTreeMap<u64, Change>,
+    pub changes: BTreeMap<u64, Change<Vec<u8>>>,
     ghost ordered: { in_order 0 (rows_of changes.entries) ≡ true },
 }

@@ -7,6 +7,7 @@ ghost use Rattle.format.specs.Updates.{new_numbers};
 ghost use Rattle.writer.specs.Changes.{place_for, update_in};
 
 // A body is put, which starts and ends at places among the bytes kept; or the object is removed, which is a change too: a number without one has none.
+// Crate `scripts` has the like as `Change<B>`, but is built on this one; and here a body has two places, each with its name.
 #[derive(Clone, Copy, Debug, PartialEq, Eq)]
 pub enum Content {
     Body { start: usize, end: usize },

@@ -39,16 +39,10 @@ impl<'a> Cursor<'a> {
         ensures { HeadRead self.old result self.new }
     {
         while let Some(line) = self.line() {
-            // no `map_err`: what its closure answers stays unopened in the proof, and the equation of the error does not close
-            match head(line) {
-                Ok(None) => {}
-                Ok(Some(head)) => return Ok(Some(head)),
-                Err(kind) => {
-                    return Err(ScriptError {
-                        line: self.lines,
-                        kind,
-                    });
-                }
+            let at = self.lines;
+            let said = head(line).map_err(|kind| ScriptError { line: at, kind })?;
+            if let Some(head) = said {
+                return Ok(Some(head));
             }
         }
         Ok(None)
@@ -61,18 +55,12 @@ impl<'a> Cursor<'a> {
         let start = *self;
         let mut end = start.place;
         while let Some(line) = self.line() {
-            // no `map_err`, as in `head`
-            match body_line(line) {
-                Ok(BodyLine::Text) => end = self.place,
-                Ok(BodyLine::End) => {
+            let at = self.lines;
+            match body_line(line).map_err(|kind| ScriptError { line: at, kind })? {
+                BodyLine::Text => end = self.place,
+                BodyLine::End => {
                     let length = (end - start.place).saturating_sub(1);
                     return Ok(&start.src[start.place..start.place + length]);
-                }
-                Err(kind) => {
-                    return Err(ScriptError {
-                        line: self.lines,
-                        kind,
-                    });
                 }
             }
         }

@@ -1,14 +1,21 @@
-use Rattle.std.proofs.Common.{◌≡◌, ◌++◌, vec_items, sym, ap, ◌∙◌, arith}
-use Rattle.std.proofs.lemmas.List.{at_drop_all}
+use Rattle.std.proofs.Common.{◌≡◌, vec_items, ap, ◌∙◌, rules, tests}
+use Rattle.std.proofs.lemmas.Iterator.Consumers.{YieldsList-end}
 use Rattle.std.specs.List.{flat_map}
-use Rattle.reports.specs.Runs.{runs_from, runs_of, numbers_in}
+use Rattle.reports.specs.Runs.{numbers_in, runs_of}
+use Rattle.reports.proofs.Grouped.{groups}
 use Rattle.reports.proofs.Listed.{runs_whole}
 use Rattle.reports.proofs.runs.runs.Goals as goal
+use Rattle.reports.proofs.runs.runs.Goals.{In-None}
+
+-- all groups were told
+told : (c : In-None) → vec_items c.loop-run.all ≡ runs_of c.args.numbers.now
+told c =
+    c.loop-run.invariant
+    ∙ (YieldsList-end (groups _ c.args.numbers.now (ap (λ s. s.rest.now) c.into_iter-run-iterator.ensures.into_iter_gives ∙ c.chunk_by-run-items.ensures.rest) (ap (λ s. s.same) c.into_iter-run-iterator.ensures.into_iter_gives ∙ c.chunk_by-run-items.ensures.closure) (λ a b q k. search (rules, tests)))
+    c.loop-run.yielded _ c.loop-run.yielded_by _ _ c.in-None.is c.next.ensures.steps).0
+
+pub returns-clause-runs : goal.returns-clause-runs
+returns-clause-runs c = told c
 
 pub returns-clause-whole : goal.returns-clause-whole
-returns-clause-whole c =
-    let xs = c.args.numbers.now in
-    let all = vec_items c.loop-n.all in
-    let e = at_drop_all (λ t. all ++ runs_from c.loop-n.run.first c.loop-n.run.last t) c.in-Some.rest.now c.loop-n.n-index (omega arith) in
-    let z : vec_items c.push-2.new.self ≡ runs_of xs = c.in_ok-push-2.ensures.items ∙ (sym e ∙ c.loop-n.invariant) in
-    ap (flat_map numbers_in) z ∙ runs_whole xs
+returns-clause-whole c = ap (flat_map numbers_in) (told c) ∙ runs_whole c.args.numbers.now

@@ -1,6 +1,6 @@
-use Rattle.std.proofs.Common.{◌≡◌, ◌++◌, drop, vec_items}
-use Rattle.reports.specs.Runs.{runs_from, runs_of}
+use Rattle.std.proofs.Common.{◌≡◌, map, vec_items}
+use Rattle.reports.proofs.Grouped.{shown}
 use Rattle.reports.proofs.runs.runs.Given as goal
 
-abbrev pub invariant-loop-n : goal.invariant-loop-n
-invariant-loop-n l = vec_items l.all ++ runs_from l.run.first l.run.last (drop l.n-index l.rest) ≡ runs_of l.numbers
+abbrev pub invariant-loop-run : goal.invariant-loop-run
+invariant-loop-run l = vec_items l.all ≡ map shown l.yielded

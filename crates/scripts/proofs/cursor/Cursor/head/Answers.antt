@@ -1,18 +1,26 @@
-use Rattle.std.proofs.Common.{sym}
-use Rattle.scripts.proofs.Steps.{head_found, head_none, head_past, head_wrong}
+use Rattle.std.proofs.Common.{Ok, ap, ◌∙◌, rules}
+use Rattle.lexer.proofs.Cases.{handed}
+use Rattle.scripts.proofs.Steps.{Numbered, numbered_ok, numbered_err, head_found, head_none, head_past, head_wrong}
 use Rattle.scripts.proofs.cursor.Cursor.head.Goals as goal
 
 pub loop-line-preserved : goal.loop-line-preserved
 loop-line-preserved c =
-    head_past c.loop-line.self c.loop-line.invariant c.line.new.self c.in-Some.line.now c.in-Some.ensures (sym (rw c.in-Ok-None.field-0-is at c.in-Ok-None.ensures))
+    let numbered : Numbered c.line.new.self.lines c.head.result c.map_err.result = search rules in
+    let e = numbered_ok _ _ _ _ c.head.ensures numbered c.in_ok-said.was in
+    head_past c.loop-line.self c.loop-line.invariant c.line.new.self c.in-Some.line.now c.in-Some.ensures (e ∙ ap (λ h. Ok h) c.in_default-said.is)
 
-pub returns-in-Ok-Some : goal.returns-in-Ok-Some
-returns-in-Ok-Some c =
-    head_found c.args.self.now c.loop-line.self c.line.new.self c.in-Some.line.now c.in-Ok-Some.head c.loop-line.invariant c.in-Some.ensures (sym (rw c.in-Ok-Some.field-0-is at c.in-Ok-Some.ensures))
+pub returns-in-Some-said : goal.returns-in-Some-said
+returns-in-Some-said c =
+    let numbered : Numbered c.line.new.self.lines c.head.result c.map_err.result = search rules in
+    let e = numbered_ok _ _ _ _ c.head.ensures numbered c.in_ok-said.was in
+    head_found c.args.self.now c.loop-line.self c.line.new.self c.in-Some.line.now c.in-Some-said.head c.loop-line.invariant c.in-Some.ensures (e ∙ ap (λ h. Ok h) c.in-Some-said.is)
 
-pub returns-in-Err : goal.returns-in-Err
-returns-in-Err c =
-    head_wrong c.loop-line.self c.loop-line.invariant c.line.new.self c.in-Some.line.now c.in-Some.ensures c.in-Err.kind (sym c.in-Err.ensures)
+pub returns-in_err-said : goal.returns-in_err-said
+returns-in_err-said c =
+    let numbered : Numbered c.line.new.self.lines c.head.result c.map_err.result = search rules in
+    let z = handed c.from_residual.result c.in_err-said.field-0.0 c.from_residual.ensures.1 in
+    let e = numbered_err _ _ _ _ c.head.ensures numbered c.in_err-said.was in
+    rw z (head_wrong c.loop-line.self c.loop-line.invariant c.line.new.self c.in-Some.line.now c.in-Some.ensures e.0 _ e.1 e.2)
 
 pub returns : goal.returns
 returns c = head_none c.loop-line.self c.loop-line.invariant c.in_default.ensures
