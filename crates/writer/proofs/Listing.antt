@@ -173,7 +173,7 @@ unfolding runs
 run_over plan n h = ap (runs n) (listed_end plan n h)
 
 -- the entry of a number, by what is planned of it
-pub entry_at : (plan : List Planned) (n : ℕ) (x : Planned) (e : Option Slot) → n < length plan → get_or plan n Kept ≡ x → entry_for n (next_in plan (n + 1)) (cell_of x) ≡ e →
+pub entry_at : (plan ps : List Planned) (n : ℕ) (x : Planned) (e : Option Slot) → ps ≡ plan → n < length plan → get_or ps n Kept ≡ x → entry_for n (next_in plan (n + 1)) (cell_of x) ≡ e →
     listed_at plan n ≡ e ∷ listed_at plan (n + 1)
-entry_at plan n x e h f g =
-    listed_here plan n Kept h ∙ ap (λ y. entry_for n (next_in plan (n + 1)) (cell_of y) ∷ listed_at plan (n + 1)) f ∙ ap (λ o. o ∷ listed_at plan (n + 1)) g
+entry_at plan ps n x e s h f g =
+    listed_here plan n Kept h ∙ ap (λ y. entry_for n (next_in plan (n + 1)) (cell_of y) ∷ listed_at plan (n + 1)) (ap (λ qs. get_or qs n Kept) (sym s) ∙ f) ∙ ap (λ o. o ∷ listed_at plan (n + 1)) g

@@ -47,6 +47,7 @@ impl Writer {
         ensures grown { count self.new.draft ≤ most_object_bytes }
     {
         self.plan.clear();
+        // by number: one may stand in the table, in the update or in both, so no list has them all
         for n in 0..size {
             self.write_number(newest, held, n);
         }
