@@ -72,11 +72,8 @@ pub(crate) fn run_end(plan: &Plan, from: usize) -> usize
     ensures is { result ≡ from + length (front (listed_at (rows_of plan.now) from)) }
     ensures within { result ≤ plan_count plan.now }
 {
-    // by number, since an entry depends on the numbers behind its own
-    for n in from..plan.len() {
-        if entry_of(plan, n).is_none() {
-            return n;
-        }
-    }
-    plan.len()
+    let len = plan.len();
+    (from..len)
+        .find(|n| entry_of(plan, *n).is_none())
+        .unwrap_or(len)
 }

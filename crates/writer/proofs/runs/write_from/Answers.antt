@@ -9,10 +9,8 @@ returns-in-Some-clause-runs c =
     let e = c.write_run.ensures in
     let l = ap (λ xs. length (front xs)) c.in-Some.ensures in
     let i = e.is in
-    let w = e.within in
     let p = c.requires.within in
     let q = c.args.plan.now.few in
-    let k = c.args.plan.now.items.ok in
     run_written (rows_of c.args.plan.now) c.args.n c.write_run.result _ _ c.args.draft.now c.write_run.new.draft c.in-Some.ensures (omega arith) (omega arith) i e.adds
 
 pub returns-in-None-clause-runs : goal.returns-in-None-clause-runs

@@ -10,7 +10,6 @@ write_from-n-requires-clause-room c =
     let l = i.1.limit in
     let f = front_within (rows_of c.args.plan.now) c.loop-n.n in
     let p = c.args.plan.now.few in
-    let k = c.args.plan.now.items.ok in
     let r = c.requires in
     omega arith
 
@@ -18,5 +17,4 @@ pub returns-clause-adds : goal.returns-clause-adds
 returns-clause-adds c =
     let i = c.loop-n.invariant in
     let h = c.loop-n-test.false in
-    let e = c.len.ensures in
     runs_done (rows_of c.args.plan.now) c.loop-n.n c.args.draft.now c.loop-n.draft (omega arith) i.1

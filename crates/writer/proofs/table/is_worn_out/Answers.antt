@@ -1,13 +1,9 @@
-use Rattle.std.proofs.Common.{◌≡◌, false, Some, MatchOption, refl, rules, tests}
+use Rattle.std.proofs.Common.{refl, rules}
 use Rattle.std.proofs.lemmas.Bool.Decides.{nat_tests}
-use Rattle.entries.specs.Cells.{state_in}
 use Rattle.format.specs.Book.{is_worn_out}
-use Rattle.format.specs.Bytes.{Bytes}
 use Rattle.writer.proofs.Tables.{told}
 use Rattle.writer.proofs.table.is_worn_out.Goals as goal
 
 pub returns : goal.returns
 unfolding is_worn_out
-returns c =
-    let m : MatchOption c.args.cell (c.is_some_and.result ≡ false) (λ x. (file : Bytes) → c.is_some_and.result ≡ is_worn_out (Some (state_in file x))) = search (rules, tests, nat_tests) in
-    told is_worn_out c.args.cell c.is_some_and.result refl m
+returns c = told is_worn_out c.args.cell c.is_some_and.result refl (search (rules, nat_tests))
