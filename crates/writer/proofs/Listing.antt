@@ -1,9 +1,11 @@
 -- The entries that an update lists, one by one and run by run.
-use Rattle.std.proofs.Common.{◌≡◌, ℕ, zero, suc, ◌+◌, ◌<◌, ◌≤◌, true, false, eqb, List, [], ◌∷◌, map, length, get_or, drop, Some, None, Option, sym, refl, ap, ◌∙◌, add-one, add-zero, ltb, arith}
+use Rattle.std.proofs.Common.{◌≡◌, ℕ, zero, suc, ◌+◌, ◌-◌, ◌<◌, ◌≤◌, true, false, eqb, List, [], ◌∷◌, map, length, get_or, drop, Some, None, Option, MatchOption, is_some, sym, refl, ap, ◌∙◌, add-one, add-zero, ltb, arith}
 use Rattle.std.specs.List.{position, position_or_len}
 use Rattle.std.specs.Option.{option_map, unwrap_or}
 use Rattle.std.proofs.lemmas.List.{drop_more, drop_all, drop-drop}
 use Rattle.std.proofs.lemmas.Bool.{eq-eqb, ne_eqb, ltb-true, ltb-false, lt-ltb, le-ltb}
+use Rattle.entries.specs.declared.entry.Entry.{Entry}
+use Rattle.entries.specs.Rows.{slot_of}
 use Rattle.format.specs.Lines.{Slot}
 use Rattle.format.specs.Writing.{next_free, entry_for, entries_for, free_slot, used_slot, Run, ahead, runs}
 use Rattle.locality.proofs.Cases.{cases}
@@ -65,6 +67,17 @@ listed_here plan n d h = ap (listed_from n) (drop_more plan n d h) ∙ rw (add-o
 pub listed_end : (plan : List Planned) (n : ℕ) → length plan ≤ n → listed_at plan n ≡ []
 unfolding entries_for
 listed_end plan n h = ap (listed_from n) (drop_all n plan h)
+
+-- a number that is listed, and one that is not
+abbrev pub Listed : List Planned → ℕ → Type 0
+Listed plan n = (s : Slot) × (listed_at plan n ≡ Some s ∷ listed_at plan (n + 1))
+
+abbrev pub Passed : List Planned → ℕ → Type 0
+Passed plan n = listed_at plan n ≡ None ∷ listed_at plan (n + 1)
+
+pub entry_listed : (plan : List Planned) (n : ℕ) (o : Option Entry) → listed_at plan n ≡ option_map slot_of o ∷ listed_at plan (n + 1) → is_some o ≡ true → Listed plan n
+entry_listed plan n None e f = clash (cc)
+entry_listed plan n (Some x) e f = (slot_of x, e)
 
 -- the entry of each kind of number
 pub kept_entry : (n l : ℕ) → entry_for n l (cell_of Kept) ≡ None
@@ -172,8 +185,31 @@ pub run_over : (plan : List Planned) (n : ℕ) → length plan ≤ n → runs n 
 unfolding runs
 run_over plan n h = ap (runs n) (listed_end plan n h)
 
+-- the numbers up to one that ends a run are as many as the run
+reach : (plan : List Planned) (m n : ℕ) → ((k : ℕ) → n ≤ k → k < n + m → Listed plan k) → length (front (listed_at plan (n + m))) ≡ 0 → length (front (listed_at plan n)) ≡ m
+reach plan zero n l e = let z : n ≡ n + 0 = omega arith in ap (λ k. length (front (listed_at plan k))) z ∙ e
+reach plan (suc m) n l e =
+    let z : n + 1 + m ≡ n + suc m = omega arith in
+    ap (λ xs. length (front xs)) (l n (omega arith) (omega arith)).1
+    ∙ ap suc (reach plan m (n + 1) (λ k a b. l k (omega arith) (omega arith)) (ap (λ k. length (front (listed_at plan k))) z ∙ e))
+
+pub run_to : (plan : List Planned) (n i : ℕ) → n ≤ i → ((k : ℕ) → n ≤ k → k < i → Listed plan k) → length (front (listed_at plan i)) ≡ 0 → i ≡ n + length (front (listed_at plan n))
+run_to plan n i h l e =
+    let z : n + (i - n) ≡ i = omega arith in
+    let r = reach plan (i - n) n (λ k a b. l k a (omega arith)) (ap (λ k. length (front (listed_at plan k))) z ∙ e) in
+    omega arith
+
+-- a run ends before the first number that is not listed, or where the plan does
+pub run_found : (plan : List Planned) (n e r : ℕ) (o : Option ℕ) → n ≤ length plan → e ≡ length plan → r ≡ unwrap_or o e →
+    MatchOption o ((k : ℕ) → n ≤ k → k < e → Listed plan k) (λ i. (n ≤ i) × (i < e) × Passed plan i × ((k : ℕ) → n ≤ k → k < i → Listed plan k)) →
+    (r ≡ n + length (front (listed_at plan n))) × (r ≤ length plan)
+run_found plan n e r None h s u m =
+    (run_to plan n r (omega arith) (λ k a b. m k a (omega arith)) (ap (λ xs. length (front xs)) (listed_end plan r (omega arith))), omega arith)
+run_found plan n e r (Some i) h s u m =
+    (run_to plan n r (omega arith) (λ k a b. m.3 k a (omega arith)) (ap (λ k. length (front (listed_at plan k))) u ∙ ap (λ xs. length (front xs)) m.2), omega arith)
+
 -- the entry of a number, by what is planned of it
-pub entry_at : (plan : List Planned) (n : ℕ) (x : Planned) (e : Option Slot) → n < length plan → get_or plan n Kept ≡ x → entry_for n (next_in plan (n + 1)) (cell_of x) ≡ e →
+pub entry_at : (plan ps : List Planned) (n : ℕ) (x : Planned) (e : Option Slot) → ps ≡ plan → n < length plan → get_or ps n Kept ≡ x → entry_for n (next_in plan (n + 1)) (cell_of x) ≡ e →
     listed_at plan n ≡ e ∷ listed_at plan (n + 1)
-entry_at plan n x e h f g =
-    listed_here plan n Kept h ∙ ap (λ y. entry_for n (next_in plan (n + 1)) (cell_of y) ∷ listed_at plan (n + 1)) f ∙ ap (λ o. o ∷ listed_at plan (n + 1)) g
+entry_at plan ps n x e s h f g =
+    listed_here plan n Kept h ∙ ap (λ y. entry_for n (next_in plan (n + 1)) (cell_of y) ∷ listed_at plan (n + 1)) (ap (λ qs. get_or qs n Kept) (sym s) ∙ f) ∙ ap (λ o. o ∷ listed_at plan (n + 1)) g

@@ -1,12 +1,12 @@
 -- What a table says of a number.
-use Rattle.std.proofs.Common.{◌≡◌, ℕ, zero, suc, ◌+◌, ◌<◌, ◌≤◌, Bool, true, false, not, leb, List, [], ◌∷◌, map, slice_get, Option, sym, refl, ap, ◌∙◌, arith}
+use Rattle.std.proofs.Common.{◌≡◌, ℕ, zero, suc, ◌+◌, ◌<◌, ◌≤◌, Bool, true, false, not, leb, List, [], ◌∷◌, map, slice_get, Some, None, Option, MatchOption, sym, refl, ap, ◌∙◌, arith}
 use Rattle.std.specs.Option.{option_map}
 use Rattle.std.proofs.lemmas.Bool.{lt-leb, le-leb}
 use Rattle.entries.specs.declared.cell.Cell.{Cell}
 use Rattle.entries.specs.Cells.{state_in}
 use Rattle.format.specs.Book.{is_used, is_worn_out, may_put}
 use Rattle.format.specs.Bytes.{Bytes}
-use Rattle.format.specs.Revisions.{Revision, nth}
+use Rattle.format.specs.Revisions.{Revision, State, nth}
 use Rattle.format.specs.Updates.{Update, new_numbers}
 use Rattle.format.specs.Writing.{new_size}
 use Rattle.writer.specs.Tables.{TableOf}
@@ -23,6 +23,11 @@ unfolding nth
 nth_map f n [] = refl
 nth_map f zero (x ∷ xs) = refl
 nth_map f (suc n) (x ∷ xs) = nth_map f n xs
+
+-- what is asked of a cell, and is not so of a number that has none
+pub told : (p : Option State → Bool) (o : Option Cell) (b : Bool) → p None ≡ false → MatchOption o (b ≡ false) (λ x. (file : Bytes) → b ≡ p (Some (state_in file x))) → (file : Bytes) → b ≡ p (option_map (state_in file) o)
+told p None b e m file = m ∙ sym e
+told p (Some x) b e m file = m file
 
 -- the state of a number, by its cell
 pub state_of : (file : Bytes) (cells : List Cell) (v : Revision) (n : ℕ) (o : Option Cell) → TableOf file cells v → o ≡ nth n cells → nth n v.states ≡ option_map (state_in file) o

@@ -6,8 +6,9 @@ ghost use Rattle.entries.specs.Rows.{slot_of};
 ghost use Rattle.format.specs.Writing.{entry_for, next_free};
 ghost use Rattle.writer.specs.Listing.{front, is_free, listed_at};
 ghost use Rattle.writer.specs.Planned.{cell_of};
+ghost use Rattle.writer.specs.Plans.{plan_count, rows_of};
 
-use crate::plan::Planned;
+use crate::plan::{Plan, Planned};
 use entries::entry::Entry;
 
 // Whether a number is free, as planned.
@@ -26,14 +27,11 @@ fn first_free(plan: &[Planned]) -> Option<usize>
 }
 
 // The first free number from `from` on, or 0, as an entry has it. `usize` has no `From`: `as` is proved to lose nothing.
-fn next_free(plan: &[Planned], from: usize) -> u64
-    requires { from ≤ length plan.now }
-    ensures { result ≡ next_free from (map cell_of (drop from plan.now)) }
+fn next_free(plan: &Plan, from: usize) -> u64
+    requires { from ≤ plan_count plan.now }
+    ensures { result ≡ next_free from (map cell_of (drop from (rows_of plan.now))) }
 {
-    match first_free(&plan[from..]) {
-        Some(place) => (from + place) as u64,
-        None => 0,
-    }
+    first_free(&plan.as_slice()[from..]).map_or(0, |place| (from + place) as u64)
 }
 
 // The entry of a number that stays free, if it is listed: 0 is, and each whose next free number changes.
@@ -51,11 +49,11 @@ fn vacant_entry(n: usize, link: u64, generation: u32, next: u64) -> Option<Entry
 }
 
 // The entry of a number, if it is listed.
-pub(crate) fn entry_of(plan: &[Planned], n: usize) -> Option<Entry>
-    requires { n < length plan.now }
-    ensures { listed_at plan.now n ≡ option_map slot_of result ∷ listed_at plan.now (n + 1) }
+pub(crate) fn entry_of(plan: &Plan, n: usize) -> Option<Entry>
+    requires { n < plan_count plan.now }
+    ensures { listed_at (rows_of plan.now) n ≡ option_map slot_of result ∷ listed_at (rows_of plan.now) (n + 1) }
 {
-    match plan[n] {
+    match plan.as_slice()[n] {
         Planned::Kept => None,
         Planned::Vacant { generation, next } => {
             vacant_entry(n, next_free(plan, n + 1), generation, next)
@@ -69,16 +67,13 @@ pub(crate) fn entry_of(plan: &[Planned], n: usize) -> Option<Entry>
 }
 
 // The place behind the unbroken run of listed numbers from a number on.
-pub(crate) fn run_end(plan: &[Planned], from: usize) -> usize
-    requires { from ≤ length plan.now }
-    ensures is { result ≡ from + length (front (listed_at plan.now from)) }
-    ensures within { result ≤ length plan.now }
+pub(crate) fn run_end(plan: &Plan, from: usize) -> usize
+    requires { from ≤ plan_count plan.now }
+    ensures is { result ≡ from + length (front (listed_at (rows_of plan.now) from)) }
+    ensures within { result ≤ plan_count plan.now }
 {
-    // by number, since an entry depends on the numbers behind its own
-    for n in from..plan.len() {
-        if entry_of(plan, n).is_none() {
-            return n;
-        }
-    }
-    plan.len()
+    let len = plan.len();
+    (from..len)
+        .find(|n| entry_of(plan, *n).is_none())
+        .unwrap_or(len)
 }

@@ -17,7 +17,7 @@ use crate::held::Held;
 use crate::plan::Planned;
 use entries::cell::Cell;
 
-// The generation of a number's entry, 0 if it has none.
+// The generation of a number's entry, 0 if it has none: the definition has 0 there, since a new number's object is written with it.
 #[tactic(auto, unfolding(format::specs::Writing::entry_gen))]
 pub(crate) fn generation_of(before: Option<Cell>) -> u32
     ensures { (file : Bytes) → result ≡ entry_gen (option_map (state_in file) before) }

@@ -15,26 +15,19 @@ pub(crate) fn cell_at(cells: &[Cell], n: usize) -> Option<Cell>
     cells.get(n).copied()
 }
 
-// Whether a number is in use. Arm by arm, since the proof of a default arm does not learn which cells in `Some` are left for it.
-#[tactic(auto, unfolding(format::specs::Book::is_used))]
+// Whether a number is in use.
 pub(crate) fn is_used(cell: Option<Cell>) -> bool
     ensures { (file : Bytes) → result ≡ is_used (option_map (state_in file) cell) }
 {
-    match cell {
-        Some(Cell::Used { .. }) => true,
-        Some(Cell::Free { .. }) => false,
-        None => false,
-    }
+    cell.is_some_and(|cell| matches!(cell, Cell::Used { .. }))
 }
 
-// Whether a number is free for good, arm by arm for the same reason.
-#[tactic(auto, using(std::proofs::lemmas::Bool::Decides::nat_tests), unfolding(format::specs::Book::is_worn_out))]
+// Whether a number is free for good.
 pub(crate) fn is_worn_out(cell: Option<Cell>) -> bool
     ensures { (file : Bytes) → result ≡ is_worn_out (option_map (state_in file) cell) }
 {
-    match cell {
-        Some(Cell::Used { .. }) => false,
-        Some(Cell::Free { generation, .. }) => generation == 65535,
-        None => false,
-    }
+    cell.is_some_and(|cell| match cell {
+        Cell::Used { .. } => false,
+        Cell::Free { generation, .. } => generation == 65535,
+    })
 }

@@ -2,6 +2,7 @@ use Rattle.std.proofs.Common.{◌≡◌, [], length, ap, ◌∙◌, arith}
 use Rattle.entries.specs.Rows.{slot_of}
 use Rattle.sections.proofs.Entries.{slot_length}
 use Rattle.writer.specs.Listing.{front, listed_at}
+use Rattle.writer.specs.Plans.{rows_of}
 use Rattle.writer.proofs.RunsWritten.{entries_done, entries_step, no_entries}
 use Rattle.writer.proofs.runs.write_entries.Goals as goal
 use Rattle.writer.proofs.runs.write_entries.Goals.{in-Some, in_default}
@@ -26,5 +27,5 @@ pub returns : goal.returns
 returns c =
     let i = c.loop-n.invariant in
     let r = c.requires.end in
-    let e : front (listed_at c.args.plan.now c.loop-n.n) ≡ [] = no_entries _ (omega arith) in
+    let e : front (listed_at (rows_of c.args.plan.now) c.loop-n.n) ≡ [] = no_entries _ (omega arith) in
     entries_done c.args.draft.now c.loop-n.draft _ _ e i.3 i.2

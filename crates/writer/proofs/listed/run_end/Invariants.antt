@@ -1,6 +1,0 @@
-use Rattle.std.proofs.Common.{◌≡◌, ◌+◌, length}
-use Rattle.writer.specs.Listing.{front, listed_at}
-use Rattle.writer.proofs.listed.run_end.Given as goal
-
-abbrev pub invariant-loop-n : goal.invariant-loop-n
-invariant-loop-n l = l.n + length (front (listed_at l.plan l.n)) ≡ l.from + length (front (listed_at l.plan l.from))
