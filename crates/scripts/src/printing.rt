@@ -37,7 +37,11 @@ fn add_head(out: &mut Vec<u8>, word: &[u8], n: TenDigits) -> Result<(), AllocErr
 }
 
 // Appends a change.
-fn add_change(out: &mut Vec<u8>, number: TenDigits, change: &Change<Vec<u8>>) -> Result<(), AllocError>
+fn add_change(
+    out: &mut Vec<u8>,
+    number: TenDigits,
+    change: &Change<Vec<u8>>,
+) -> Result<(), AllocError>
     ensures { OnOk result (out.new.items ≡ out.old.items ++ change_bytes number.value (change_of change.now)) }
 {
     match change {
