@@ -1,11 +1,8 @@
-use Rattle.std.proofs.Common.{arith, subst, rules, tests}
-use Rattle.std.proofs.lemmas.Iterator.{first_from_Range, serves_from_Range}
+use Rattle.std.proofs.Common.{subst, rules, tests}
+use Rattle.std.proofs.lemmas.Iterator.{first_from_Range}
 use Rattle.writer.specs.Plans.{rows_of}
 use Rattle.writer.proofs.Listing.{Listed, Passed, entry_listed, run_found}
 use Rattle.writer.proofs.listed.run_end.Goals as goal
-
-pub find-requires : goal.find-requires
-find-requires c = record { can = tt; finite = tt; callable = serves_from_Range (λ x q k. search (rules, tests)) (λ x low high. omega arith) }
 
 pub returns : goal.returns
 returns c =
