@@ -68,6 +68,8 @@ pub fn body_of(own: &[Cell], n: usize) -> Option<Body>
     })
 }
 
+// Whether a cell is in use. The writer asks the same of a number that may have no cell, in the words of the format: one method for both would be
+// one `matches!` with two contracts.
 fn is_used(cell: &Cell) -> bool
     ensures { result ≡ not (is_free cell.now) }
 {

@@ -37,6 +37,7 @@ impl Layer {
     }
 }
 
+// For each type of words again: a foreign trait cannot be implemented for all types that have words.
 impl fmt::Display for Layer {
     ghost output = { λ l. Some (layer_words l) };
 

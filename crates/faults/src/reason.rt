@@ -103,6 +103,7 @@ impl Reason {
     }
 }
 
+// For each type of words again: a foreign trait cannot be implemented for all types that have words.
 impl fmt::Display for Reason {
     ghost output = { λ r. Some (rule_of r).words };
 

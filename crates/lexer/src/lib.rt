@@ -1,4 +1,6 @@
 // The readers of tokens over bytes in memory. None of them takes memory.
+// A place that a reader answers counts in the bytes that it was given, and its contract says where in them it lies. An answer that held the bytes too
+// would need a clause more: that they are the same bytes.
 #![tactic(auto)]
 
 pub mod bytes;

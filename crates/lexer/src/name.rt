@@ -105,6 +105,8 @@ pub fn spells(name: &[u8], bytes: &[u8]) -> bool
 }
 
 // Whether the bytes are the same.
+// `==` in a function of its own: its clause in the library speaks of a comparison byte by byte in the library's words. That this is `same` of the
+// definitions is shown here once, and the callers have it from this clause.
 pub fn same_bytes(a: &[u8], b: &[u8]) -> bool
     ensures { result ≡ same a.now b.now }
 {

@@ -73,6 +73,7 @@ impl<'a> Head<'a> {
         ensures is { ReadAs after_less self.entry result }
         ensures takes { Takes self.entry.src.now self.entry.at result }
     {
+        // no byte, a second `<`, another: the three cases of one match
         match self.src.get(self.at + 1) {
             None => Err(Flaw::CutShort(self.at + 1)),
             Some(b'<') => Ok((Token::OpenDict, self.at + 2)),
@@ -88,6 +89,7 @@ impl<'a> Head<'a> {
         ensures is { ReadAs after_greater self.entry result }
         ensures takes { Takes self.entry.src.now self.entry.at result }
     {
+        // no byte, a second `>`, another: the three cases of one match
         match self.src.get(self.at + 1) {
             None => Err(Flaw::CutShort(self.at + 1)),
             Some(b'>') => Ok((Token::CloseDict, self.at + 2)),

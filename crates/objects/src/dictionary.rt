@@ -44,7 +44,8 @@ fn marked(at: Lexer<'_>) -> Result<Dictionary, Fault>
 }
 
 // The dictionary that has to stand next, in bytes that start at the place `base` of the file.
-// Its places count in the bytes; the place of a fault counts in the file.
+// Its places count in the bytes; the place of a fault counts in the file. That it can is asked of the caller: `View` of `opening`, which has this fact,
+// lies above this crate.
 pub fn dictionary_at(base: usize, at: Lexer<'_>) -> Result<Dictionary, Fault>
     requires { base + length at.src.now < 2 ^ 64 }
     ensures { MatchResult result (OpenedAt base at.entry.src.now at.entry.place) (λ f. trailer_at (token_at (base + at.entry.place) (rest_of at.entry)) ≡ bad f) }

@@ -105,6 +105,7 @@ pub fn read_frame(src: &[u8]) -> Result<Frame, Fault>
 }
 
 // The object whose number stands at the first byte, which stands at the place `base` of the file: places count in the file.
+// That they can is asked of the caller: `View` of `opening`, which has this fact, lies above this crate.
 pub fn read_frame_at(base: usize, src: &[u8]) -> Result<Frame, Fault>
     requires { base + length src.now < 2 ^ 64 }
     ensures is { framed_at base src.now result ≡ frame base src.now }

@@ -23,25 +23,20 @@ pub fn read_object(at: Lexer<'_>, reading: Reading) -> Result<Extent, Fault>
     ensures is { seen at.entry.src.now result ≡ shaped (read_by reading.check reading.depth at.entry.place (rest_of at.entry)) }
     ensures within { IfOk result (λ e. (at.entry.place < e.end) × (e.end ≤ length at.entry.src.now)) }
 {
-    match start_of(at)? {
-        Start::Whole(extent) => Ok(extent),
+    let (shape, end) = match start_of(at)? {
+        Start::Whole(extent) => return Ok(extent),
         Start::Array { mark, inside } => {
             let inner = reading.deeper(mark)?;
             let end = read_array(at.to(inside), inner)?;
-            Ok(Extent {
-                shape: Shape::Array,
-                end,
-            })
+            (Shape::Array, end)
         }
         Start::Dictionary { mark, inside } => {
             let inner = reading.deeper(mark)?;
             let end = read_dictionary(at.to(inside), inner)?;
-            Ok(Extent {
-                shape: Shape::Dictionary,
-                end,
-            })
+            (Shape::Dictionary, end)
         }
-    }
+    };
+    Ok(Extent { shape, end })
 }
 
 // The value behind a key, from behind white space on.

@@ -22,7 +22,8 @@ pub enum Start {
     Dictionary { mark: usize, inside: usize },
 }
 
-// `true`, `false` and `null`, tested in turn: a match over byte strings can be left at any of their bytes, and each way out of it is a proof of its own.
+// `true`, `false` and `null`, tested in turn. Tried as a `match` over byte strings: the proofs of its arms did not close by themselves, and its default arm
+// has a goal at each byte where a word can differ, without a fact that tells the byte.
 fn word_shape(word: &[u8]) -> Option<Shape>
     ensures { result ≡ word_shape word.now }
 {

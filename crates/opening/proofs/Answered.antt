@@ -1,5 +1,5 @@
 -- The fault of a line, by what the line lacks.
-use Rattle.std.proofs.Common.{◌≡◌, ℕ, ◌+◌, ◌<◌, ◌≤◌, length, drop, IfOk, Ok, Err, IsErrAnd, Result, sym, refl, ap, ◌∙◌, arith, length-drop}
+use Rattle.std.proofs.Common.{◌≡◌, ℕ, ◌+◌, ◌<◌, ◌≤◌, length, drop, IfOk, Ok, Err, IsErrAnd, MatchResult, Result, sym, refl, ap, ◌∙◌, arith, length-drop}
 use Rattle.faults.specs.declared.fault.Fault.{Fault}
 use Rattle.faults.specs.declared.reason.Reason.TheVariants.{BytesEnd}
 use Rattle.format.specs.Bytes.{Bytes, Got, ok, bad, then, end_of}
@@ -7,7 +7,7 @@ use Rattle.format.specs.Failures.{section_fault}
 use Rattle.format.specs.Lines.{Piece, placed}
 use Rattle.lexer.specs.declared.line.Lack.{Lack}
 use Rattle.lexer.specs.declared.line.Lack.TheVariants.{Short, Misfit}
-use Rattle.opening.specs.Answers.{line_fault, piece_here, answered, passed_to, EndsWithin}
+use Rattle.opening.specs.Answers.{lack_fault, piece_here, answered, passed_to, EndsWithin}
 use Rattle.opening.specs.Parts.{passed, taken, PassesWithin, TakesWithin, Passes, Takes, BothBelow}
 use Rattle.opening.specs.Readings.{got_by}
 use Rattle.opening.proofs.Readings.{exit_is}
@@ -17,15 +17,16 @@ end_is : (src : Bytes) (p base : ℕ) → p ≤ length src → end_of (base + p)
 unfolding end_of
 end_is src p base h = rw length-drop (omega arith)
 
-module _ {T : Type 0} (src : Bytes) (p base : ℕ) (part : Result T Lack) where
-  pub placed_ok : (x : T) → part ≡ Ok x → Ok x ≡ answered (placed (base + p) (drop p src) (piece_here part))
-  unfolding placed
-  placed_ok x e = rw e
+-- what a line lacks is handed on as a fault
+abbrev pub Faulted : {T : Type 0} → (here end : ℕ) → Result T Lack → Result T Fault → Type 0
+Faulted here end r s = MatchResult r (λ x. s ≡ Ok x) (λ e. IsErrAnd s (λ f. f ≡ lack_fault here end e))
 
-  pub placed_err : (e : Lack) (f : Fault) → p ≤ length src → part ≡ Err e → f ≡ line_fault base p src e → Err f ≡ answered (placed (base + p) (drop p src) (piece_here part))
-  unfolding placed
-  placed_err Short f h e is = rw e (ap Err (is ∙ ap (section_fault BytesEnd) (sym (end_is src p base h))))
-  placed_err Misfit f h e is = rw e (ap Err is)
+pub placed_given : {T : Type 0} (src : Bytes) (p base : ℕ) (r : Result T Lack) (s : Result T Fault) → p ≤ length src → Faulted (base + p) (base + length src) r s → s ≡ answered (placed (base + p) (drop p src) (piece_here r))
+unfolding placed
+placed_given src p base (Ok x) s h m = m
+placed_given src p base (Err e) (Ok x) h m = absurd m
+placed_given src p base (Err Short) (Err f) h m = ap Err (m ∙ ap (section_fault BytesEnd) (sym (end_is src p base h)))
+placed_given src p base (Err Misfit) (Err f) h m = ap Err m
 
 -- one line after another
 pub then_on : {A B : Type 0} (x : Got A) (k : A → ℕ → Bytes → Got B) {a : A} {q : ℕ} {ys : Bytes} {z : Got B} → x ≡ ok a q ys → k a q ys ≡ z → then x k ≡ z

@@ -9,10 +9,14 @@ use Rattle.lexer.specs.declared.line.Lack.{Lack}
 use Rattle.lexer.specs.declared.line.Lack.TheVariants.{Short, Misfit}
 use Rattle.opening.specs.Parts.{lacking}
 
--- what a line that starts at p of the window src lacks, as a fault: at the end of the window, or at the line's first byte
+-- what a line lacks, as a fault: at the place where its bytes end, or at its first byte, which stands at the place here
+abbrev pub lack_fault : (here end : ℕ) → Lack → Fault
+lack_fault here end Short = section_fault BytesEnd end
+lack_fault here end Misfit = section_fault BadLine here
+
+-- the same of a line that starts at p of the window src
 abbrev pub line_fault : (base p : ℕ) → Bytes → Lack → Fault
-line_fault base p src Short = section_fault BytesEnd (base + length src)
-line_fault base p src Misfit = section_fault BadLine (base + p)
+line_fault base p src lack = lack_fault (base + p) (base + length src) lack
 
 -- a part without its place
 abbrev pub piece_here : {T : Type 0} → Result T Lack → Piece T

@@ -10,10 +10,12 @@ pub use entries::entry::Entry;
 use lexer::reader::Lexer;
 
 // `n`, for an entry in use, or `f`.
-// Whether it is in use is a truth value until `entry_of` makes the enum: so the definition of an entry's line has the mark.
+// Whether it is in use is a truth value until `entry_of` makes the enum: an enum of two marks would be turned into `Entry` by the same `if`, and the
+// definition has a truth value here.
 fn use_mark(at: Lexer<'_>) -> Result<(bool, usize), Lack>
     ensures { Takes (λ b. b) use_mark at.entry.src.now at.entry.place result }
 {
+    // no byte, one of the two marks, another: the cases of one match
     match at.src.get(at.place) {
         None => Err(Lack::Short),
         Some(b'n') => Ok((true, at.place + 1)),

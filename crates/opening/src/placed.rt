@@ -2,7 +2,7 @@
 ghost use Rattle.std.specs.Prelude.{◌≡◌, ◌≤◌, length};
 ghost use Rattle.format.specs.Lines.{placed};
 ghost use Rattle.format.specs.Sections.{tail};
-ghost use Rattle.opening.specs.Answers.{line_fault, piece_here, answered, passed_to, EndsWithin};
+ghost use Rattle.opening.specs.Answers.{lack_fault, line_fault, piece_here, answered, passed_to, EndsWithin};
 ghost use Rattle.opening.specs.Places.{spot, rest};
 
 use crate::lines::{exact_line, number_line};
@@ -11,6 +11,16 @@ use crate::view::View;
 use faults::fault::Fault;
 use faults::layer::Layer;
 use faults::reason::Reason;
+
+// What a line or an entry lacks that starts at the place `here` of the file, as a fault; its bytes end at the place `end`.
+fn lack_fault(here: usize, end: usize, lack: Lack) -> Fault
+    ensures { result ≡ lack_fault here end lack }
+{
+    match lack {
+        Lack::Short => Fault::met(Reason::BytesEnd, Layer::Section, end),
+        Lack::Misfit => Fault::met(Reason::BadLine, Layer::Section, here),
+    }
+}
 
 impl<'a> View<'a> {
     // The same bytes from another place on.
@@ -30,14 +40,11 @@ impl<'a> View<'a> {
     pub(crate) fn line_fault(self, lack: Lack) -> Fault
         ensures { result ≡ line_fault self.entry.base self.entry.at.place self.entry.at.src.now lack }
     {
-        match lack {
-            Lack::Short => Fault::met(
-                Reason::BytesEnd,
-                Layer::Section,
-                self.base + self.at.src.len(),
-            ),
-            Lack::Misfit => Fault::met(Reason::BadLine, Layer::Section, self.base + self.at.place),
-        }
+        lack_fault(
+            self.base + self.at.place,
+            self.base + self.at.src.len(),
+            lack,
+        )
     }
 
     // The answer of a line or an entry that starts here, with its fault: where its bytes end, at the end of the view; where they do not fit, at its
@@ -45,12 +52,10 @@ impl<'a> View<'a> {
     pub fn placed<T>(self, part: Result<T, Lack>) -> Result<T, Fault>
         ensures { result ≡ answered (placed (spot self.entry) (rest self.entry) (piece_here part)) }
     {
-        // no `map_err`: tried, at one type in place of `T` too, by `move`, and with a clause of the closure's own. Where a closure captures the view,
-        // what `map_err` ensures tells nothing of the fault that it answers; with numbers alone, as in `objects::dictionary`, it does
-        match part {
-            Ok(x) => Ok(x),
-            Err(lack) => Err(self.line_fault(lack)),
-        }
+        // the closure captures two numbers: where it captures the view, what `map_err` ensures tells nothing of the fault that it answers
+        let here = self.base + self.at.place;
+        let end = self.base + self.at.src.len();
+        part.map_err(|lack| lack_fault(here, end, lack))
     }
 
     // A tail that gives the offset `offset`: `startxref`, the digits, `%%EOF`, each a line.

@@ -24,6 +24,7 @@ pub struct Section {
 }
 
 // The section that starts at the place `base` of the file, where the window begins; its rows are held then, and no others.
+// That the places of the window can be counted in the file is asked of the caller here; from here on `View` has it.
 pub fn read_section(base: usize, src: &[u8], rows: &mut Rows) -> Result<Section, Fault>
     requires counts { base + length src.now < 2 ^ 64 }
     requires few { length src.now ≤ window_bytes }
@@ -40,7 +41,7 @@ pub fn read_section(base: usize, src: &[u8], rows: &mut Rows) -> Result<Section,
     let word_end = word.placed(exact(word.at, b"trailer"))?;
     let dictionary = dictionary_at(base, view.at.to(word_end))?;
     let tail_start = view.at.to(dictionary.end).skip_space();
-    // there is no `From` between `usize` and `u64`
+    // `as`: there is no `From` between `usize` and `u64`, and `try_from` would answer an error that never comes
     let end = view.to(tail_start).tail(base as u64)?;
     Ok(Section {
         end,

@@ -13,17 +13,19 @@ use objects::object::value_of;
 use objects::shape::{Shape, Value};
 
 // What a value is to a trailer; no value counts as a null one.
-fn kind(value: Option<Value>) -> Kind
-    ensures { kind_of result ≡ kind_in (shape_in value) }
-{
-    match value.map(|value| value.shape) {
-        None | Some(Shape::Null) => Kind::Absent,
-        Some(Shape::Integer(z)) => Kind::Number(z),
-        Some(Shape::Reference { number, generation }) => Kind::Reference(
-            number,
-            u32::from(generation),
-        ),
-        Some(_) => Kind::Other,
+impl From<Option<Value>> for Kind {
+    ghost from_gives = { λ value kind. kind_of kind ≡ kind_in (shape_in value) };
+
+    fn from(value: Option<Value>) -> Kind {
+        match value.map(|value| value.shape) {
+            None | Some(Shape::Null) => Kind::Absent,
+            Some(Shape::Integer(z)) => Kind::Number(z),
+            Some(Shape::Reference { number, generation }) => Kind::Reference(
+                number,
+                u32::from(generation),
+            ),
+            Some(_) => Kind::Other,
+        }
     }
 }
 
@@ -32,7 +34,7 @@ fn kind(value: Option<Value>) -> Kind
 fn kind_at(src: &[u8], inside: usize, name: &[u8]) -> Kind
     ensures { (es : Entries) (q : ℕ) (ys : Bytes) → entries (object_by 31) turns no_entries inside (drop inside src.now) ≡ ok es q ys → kind_of result ≡ trailer_entry (spelled name.now) es }
 {
-    kind(value_of(src, inside, name))
+    Kind::from(value_of(src, inside, name))
 }
 
 #[tactic(auto, unfolding(format::specs::Chain::is_absent))]

@@ -53,10 +53,8 @@ impl Failure {
                 writeln!(out, "at byte {place}:")?;
                 out.write_all(text.as_slice())?;
                 writeln!(out)?;
-                for _ in 0..*mark {
-                    out.write_all(b" ")?;
-                }
-                out.write_all(b"^\n")
+                let mark = *mark;
+                writeln!(out, "{:mark$}^", "")
             }
         }
     }

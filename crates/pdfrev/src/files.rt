@@ -24,7 +24,7 @@ pub fn open(rt: &HostRuntime, path: &str) -> Result<Book<Flat>, Failure>
     Flat::check(&bytes, length)?;
     let memory = Memory::new(heap)?;
     let mut book = Book::new(Flat::new(bytes, length), memory);
-    // No `?`: what is wrong is shown by the bytes, which are taken out of the book again.
+    // No `?`: both ways out need the book, since its bytes show what is wrong.
     match book.open() {
         Ok(_) => Ok(book),
         Err(fault) => {
@@ -42,7 +42,7 @@ fn load(rt: &HostRuntime, path: &str) -> io::Result<Vec<u8>> {
     if !found.is_file() {
         return fs::read(rt, path);
     }
-    // `as`, both ways: there is no `From` between u64 and usize.
+    // `as`, both ways: there is no `From` between u64 and usize, and `try_from` would answer an error that never comes.
     let length = found.len().min(LONGEST as u64 + 1) as usize;
     let mut bytes = vec![in rt.alloc(); 0u8; length]?;
     file.read_exact(bytes.as_mut_slice())?;

@@ -29,6 +29,7 @@ fn size_is(told: i64, size: usize) -> bool
 }
 
 // The Size of a section, where its entries, Size and Root fit, and its subsections do as `fits` says; `old` is the table before.
+// The section's rows and the table before it come from two parts of the memory, and so they are two values.
 pub fn check_rows(fits: bool, link: Link, rows: &[Row], old: &[Cell]) -> Result<usize, Fault>
     requires bound { in_bound (rows_of rows.now) ≡ true }
     requires small { length old.now ≤ 1000 }

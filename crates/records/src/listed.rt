@@ -14,7 +14,8 @@ use faults::fault::Fault;
 use objects::frame::Frame;
 use stores::store::Store;
 
-// The cell of an object that was read for a row of a section at `offset`: it bears the row's number and generation.
+// The cell of an object that was read for a row of a section at `offset`: it bears the row's number and generation. They come from two places, the
+// number from the row and the generation from its entry: a pair of them would be made for this call alone.
 fn framed_cell(offset: usize, number: u64, generation: u32, frame: Frame) -> Result<Cell, Fault>
     ensures { FramedCell offset number generation frame result }
 {

@@ -28,6 +28,7 @@ const HEADER_BYTES: usize = 8;
 
 const TAIL_BYTES: usize = 31;
 
+// The store and the window are two values, here and below: the store is only looked at, and the window is part of the memory for reading.
 fn has_header<S: Store>(store: &S, window: &mut Window) -> bool
     ensures { result ≡ header_fits (S.Store.meaning store.now).bytes }
 {
@@ -82,7 +83,7 @@ pub fn open_file<S: Store>(
     let Some(newest) = newest_offset(store, &mut scratch.window) else {
         return Err(Fault::met(Reason::NoTail, Layer::Chain, length));
     };
-    // there is no `From` of `u64` for `usize`
+    // there is no `From` of `u64` for `usize`, and `try_from` would answer an error that never comes
     scratch.walk(store, newest as usize, length)?;
     read_revisions(store, scratch, tables)?;
     Ok(tables.len())

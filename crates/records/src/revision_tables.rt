@@ -6,7 +6,8 @@ use entries::revision::Revision;
 
 mod methods;
 
-// How many revisions a file may have, the highest Size, and how many cells their tables have. No `From` is called in a constant.
+// How many revisions a file may have, the highest Size, and how many cells their tables have.
+// There is no `From` of `u64` for `usize`, and none is called in a constant.
 pub const MOST_REVISIONS: usize = 64;
 
 pub const MOST_SIZE: usize = HIGHEST_NUMBER as usize + 1;

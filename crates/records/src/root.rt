@@ -34,7 +34,7 @@ pub fn root_fits(root: u32, root_generation: u32, rows: &[Row], old: &[Cell]) ->
         Some(i) => {
             matches!(rows[i].entry, Entry::Used { generation, .. } if generation == root_generation)
         }
-        // there is no `From` of `u32` for `usize`
+        // there is no `From` of `u32` for `usize`, and `try_from` would answer an error that never comes
         None => used_at(root as usize, root_generation, old),
     }
 }

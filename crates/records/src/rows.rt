@@ -44,23 +44,16 @@ fn under_size(n: u64, size: i64) -> bool
 fn used_fits(offset: usize, number: u64, object: u64, generation: u32) -> bool
     ensures { (size : ℤ) → result ≡ slot_fits offset size number (slot_of (Entry.Used object generation)) }
 {
-    if number < 1 || generation > HIGHEST_USED {
-        return false;
-    }
-    object < offset as u64
+    number >= 1 && generation <= HIGHEST_USED && object < offset as u64
 }
 
 // A free entry of a table of that Size: its generation and its link.
 fn free_fits(size: i64, number: u64, next: u64, generation: u32) -> bool
     ensures { (offset : ℕ) → result ≡ slot_fits offset size number (slot_of (Entry.Free next generation)) }
 {
-    if generation > HIGHEST_FREE {
-        return false;
-    }
-    if number == 0 && generation < HIGHEST_FREE {
-        return false;
-    }
-    under_size(next, size)
+    generation <= HIGHEST_FREE
+        && (number != 0 || generation == HIGHEST_FREE)
+        && under_size(next, size)
 }
 
 fn entry_fits(offset: usize, size: i64, row: Row) -> bool
@@ -86,7 +79,8 @@ pub fn slots_fit(offset: usize, size: i64, rows: &[Row]) -> Result<(), Fault>
     }
 }
 
-// One more than the highest number: of those below `old`, and of those listed.
+// One more than the highest number: of those below `old`, and of those listed. That a Size is at most 1,000 is asked of the number, here and in `check_rows`
+// and `Tables`: a Size is a plain number in rows, tables and revisions, and a type for it would be taken apart in each.
 pub fn highest(old: usize, rows: &[Row]) -> usize
     requires { (in_bound (rows_of rows.now) ≡ true) × (old ≤ 1000) }
     ensures is { result ≡ highest old (rows_of rows.now) }

@@ -8,6 +8,8 @@ use opening::rows::{MOST_ROWS, Rows};
 mod methods;
 
 // A window on the file, the rows of a section, the cells read for them, each with its number, and the offsets of the sections from the newest on.
+// That the offsets stay as they were is a clause of each call that reads: the memory is one, so that it is taken once, and what a call leaves alone
+// it says.
 #[derive(Drop)]
 pub struct Scratch {
     pub(crate) window: Window,

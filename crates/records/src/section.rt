@@ -16,7 +16,8 @@ impl Scratch {
     ghost use Rattle.records.specs.Linked.{ReadsLink};
     ghost use Rattle.records.specs.Trailers.{SectionSeen, seen_by};
 
-    // The section at `offset`, read into the window, and its rows.
+    // The section at `offset`, read into the window, and its rows. A store and a place in it stand side by side here and in other calls of the crate:
+    // the store is lent for one call, and places change with each section.
     pub(crate) fn section_at<S: Store>(
         &mut self,
         store: &S,

@@ -31,8 +31,8 @@ pub fn lay(
 {
     // the cells are read while they grow, so no iterator lends them
     for n in 0..size {
-        // there is no `From` of `usize` for `u64`
         let held = cells.as_slice();
+        // there is no `From` of `usize` for `u64`
         let cell = listed_cell(listed, n as u64).unwrap_or_else(|| held[first + n]);
         cells.push(cell);
     }

@@ -1,6 +1,6 @@
 -- What a line does to the stores on the bench.
-use Rattle.std.specs.Prelude.{◌≡◌, ℕ, ◌⊎◌, List, [], Ok, Err, vec_items, Result, MatchResult}
-use Rattle.replay.specs.Calls.{Answer}
+use Rattle.std.specs.Prelude.{◌≡◌, ℕ, ◌⊎◌, List, Err, Result}
+use Rattle.replay.specs.Calls.{Answer, Plain}
 use Rattle.replay.specs.Commands.{Written}
 use Rattle.replay.specs.Piles.{Laid, Made, PileCalled}
 use Rattle.replay.specs.Readings.{ReadAs}
@@ -10,11 +10,6 @@ use Rattle.replay.specs.declared.command.Command.{Command}
 use Rattle.replay.specs.declared.command.Command.TheVariants.{Flat, Overlay, Store, Read}
 use Rattle.replay.specs.declared.pile.Pile.{Pile}
 use Rattle.replay.specs.declared.trouble.Trouble as trouble
-
--- the answer of what has no values to tell
-abbrev pub Plain : Answer → Result (Unit {0}) Setback → Type 0
-Plain r (Ok u) = MatchResult r (λ vs. vec_items vs ≡ []) (λ _. ⊥)
-Plain r (Err e) = r ≡ Err e
 
 pub record Plainly (Does : Result (Unit {0}) Setback → Type 0) (r : Answer) : Type 0 where
   pub result : Result (Unit {0}) Setback

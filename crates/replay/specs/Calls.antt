@@ -1,5 +1,5 @@
 -- What a call of a store is answered, and what it leaves.
-use Rattle.std.specs.Prelude.{◌≡◌, ℕ, ◌<◌, List, [], ◌∷◌, length, Some, None, vec_items, Option, Result, MatchResult}
+use Rattle.std.specs.Prelude.{◌≡◌, ℕ, ◌<◌, List, [], ◌∷◌, length, Some, None, Ok, Err, vec_items, Option, Result, MatchResult}
 use Rattle.std.specs.List.{slice_get}
 use Rattle.std.specs.Global.{Vec}
 use Rattle.faults.specs.Faults.{refused}
@@ -17,6 +17,11 @@ use Rattle.replay.specs.declared.trouble.Trouble.TheVariants.{NoMemory}
 
 abbrev pub Answer : Type 0
 Answer = Result (Vec Value) Setback
+
+-- the answer of what has no values to tell
+abbrev pub Plain : Answer → Result (Unit {0}) Setback → Type 0
+Plain r (Ok u) = MatchResult r (λ vs. vec_items vs ≡ []) (λ _. ⊥)
+Plain r (Err e) = r ≡ Err e
 
 -- the store refused: its fault is the answer, and it is as it was
 pub record Refuses (reason : Reason) (e : Setback) (was is : Meaning) : Type 0 where

@@ -1,18 +1,26 @@
 // What a command is answered, as one line.
 ghost use Rattle.std.specs.Prelude.{◌≡◌, Some};
 ghost use Rattle.replay.specs.Answers.{refusal_words};
+ghost use Rattle.replay.specs.Calls.{Plain};
 ghost use Rattle.replay.specs.declared.answer.Setback.TheVariants as setback;
 ghost use Rattle.replay.specs.declared.trouble.Trouble.TheVariants.{NoMemory};
 
 use crate::sort::Sort;
 use crate::trouble::Trouble;
 use faults::fault::Fault;
-use std::alloc::{AllocError, AllocFailed};
+use std::alloc::{AllocError, AllocFailed, Global};
 use std::io::Write;
 use std::{fmt, io};
 
 // The values of a command that was done, or why it was not.
 pub type Answer = Result<Vec<Value>, Setback>;
+
+// The answer of what has no values to tell.
+pub fn plain(heap: Global, res: Result<(), Setback>) -> Answer
+    ensures { Plain result res }
+{
+    res.map(|_| Vec::new(heap))
+}
 
 #[derive(Drop)]
 pub enum Value {
@@ -84,7 +92,7 @@ impl fmt::Display for Refusal {
     }
 }
 
-// The digits of bytes are bytes themselves, which `Display` would first have to find to be text.
+// The digits are bytes, as `hex::encode` adds them and its contract says: a `String` would be plainer here and longer there.
 fn write_value<W: Write>(value: &Value, out: &mut W) -> io::Result<()> {
     match value {
         Value::Number(n) => write!(out, " {n}"),

@@ -1,7 +1,7 @@
 // What stands on the bench, and what each command does to it.
-ghost use Rattle.replay.specs.Benches.{Answered, Performed, Plain};
+ghost use Rattle.replay.specs.Benches.{Answered, Performed};
 
-use crate::answer::{Answer, Setback};
+use crate::answer::{Answer, plain};
 use crate::command::Command;
 use crate::pile::Pile;
 use crate::readings;
@@ -43,11 +43,4 @@ impl Bench {
             Command::Read(reading) => readings::answer(self.heap, &reading),
         }
     }
-}
-
-// The answer of what has no values to tell.
-fn plain(heap: Global, res: Result<(), Setback>) -> Answer
-    ensures { Plain result res }
-{
-    res.map(|_| Vec::new(heap))
 }

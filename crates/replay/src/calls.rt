@@ -3,7 +3,7 @@ ghost use Rattle.std.specs.Prelude.{◌≡◌, IfOk};
 ghost use Rattle.replay.specs.Calls.{Appended, BytesTold, ByteTold, Called, CutBack};
 ghost use Rattle.replay.specs.Hex.{hex_of};
 
-use crate::answer::{Answer, Value};
+use crate::answer::{Answer, Setback, Value, plain};
 use crate::command::Call;
 use crate::hex;
 use std::alloc::{AllocError, Global};
@@ -26,15 +26,13 @@ pub fn answer<S: Store>(heap: Global, store: &mut S, call: &Call) -> Answer
 fn append<S: Store>(heap: Global, store: &mut S, more: &[u8]) -> Answer
     ensures { Appended (S.Store.meaning store.old) more.now result (S.Store.meaning store.new) }
 {
-    store.append(more)?;
-    Ok(Vec::new(heap))
+    plain(heap, store.append(more).map_err(Setback::Fault))
 }
 
 fn cut<S: Store>(heap: Global, store: &mut S, n: usize) -> Answer
     ensures { CutBack (S.Store.meaning store.old) n result (S.Store.meaning store.new) }
 {
-    store.cut(n)?;
-    Ok(Vec::new(heap))
+    plain(heap, store.cut(n).map_err(Setback::Fault))
 }
 
 fn byte<S: Store>(heap: Global, store: &S, place: usize) -> Answer

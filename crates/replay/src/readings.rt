@@ -1,14 +1,13 @@
 // What is read in given bytes.
 ghost use Rattle.replay.specs.Readings.{BodyTold, ReadAs, TokensTold};
 
-use crate::answer::{Answer, Setback, Value};
+use crate::answer::{Answer, Setback, Value, plain};
 use crate::command::Reading;
 use crate::sort::Sort;
 use crate::trouble::Trouble;
-use faults::fault::Fault;
 use lexer::reader::Lexer;
 use objects::body::check_body;
-use objects::frame::read_frame;
+use objects::frame::read_frame_at;
 use objects::object::object_at;
 use std::alloc::Global;
 use stores::store::LONGEST;
@@ -58,8 +57,7 @@ fn object(heap: Global, src: &[u8]) -> Answer {
 fn body(heap: Global, src: &[u8]) -> Answer
     ensures { BodyTold src.now result }
 {
-    check_body(src)?;
-    Ok(Vec::new(heap))
+    plain(heap, check_body(src).map_err(Setback::Fault))
 }
 
 // The object in the file that starts with the bytes, with places counted from `place`.
@@ -68,18 +66,15 @@ fn frame(heap: Global, place: usize, src: &[u8]) -> Answer {
     if place > LONGEST {
         return Err(Setback::Trouble(Trouble::BadPlace));
     }
-    let read = read_frame(src).map_err(|fault| Fault {
-        place: place.saturating_add(fault.place),
-        ..fault
-    })?;
-    // `as`: there is no `From` from u32 to usize.
+    let read = read_frame_at(place, src)?;
+    // `as`: there is no `From` from u32 to usize, and `try_from` would answer an error that never comes.
     numbers(
         heap,
         &[
             read.number as usize,
             read.generation as usize,
-            place.saturating_add(read.start),
-            place.saturating_add(read.end),
+            read.start,
+            read.end,
         ],
     )
 }

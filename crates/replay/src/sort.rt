@@ -50,7 +50,8 @@ impl Sort {
         }
     }
 
-    // By tests: tried as a `match`, whose default arm has forty goals, and none of them closed.
+    // By tests: tried as a `match` over byte strings, whose default arm has forty goals, and none of them closed. Over `&str` a `match` closes,
+    // as in `Command::named`, but a token's bytes need not be text.
     fn of_word(word: &[u8]) -> Sort
         ensures { result ≡ word_sort word.now }
     {

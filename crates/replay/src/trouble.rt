@@ -55,6 +55,7 @@ impl<T: Drop> From<AllocFailed<T>> for Trouble {
     }
 }
 
+// For each type with `words`, as `Mistake` of the scripts, one more impl: a foreign trait cannot be implemented for all that have words.
 impl fmt::Display for Trouble {
     fn fmt<W: fmt::Write>(&self, f: &mut fmt::Formatter<W>) -> fmt::Result {
         let words = self.words();

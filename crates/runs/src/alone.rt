@@ -37,7 +37,7 @@ pub fn open_alone<S: Store, T: Store>(
 ) -> Result<Book<T>, Stopped<T, ExtractError>>
     ensures { Extracts S.Store.meaning T.Store.meaning book.now k out result }
 {
-    // store and memory go back with the cause, and so not by `?`
+    // store and memory go back with the cause, and so not by `?`; the good answer holds nothing, so an `if let` is enough
     if let Err(cause) = draw_alone(book, k, &mut out) {
         return Err(Stopped {
             store: out,
@@ -46,6 +46,7 @@ pub fn open_alone<S: Store, T: Store>(
         });
     }
     let mut alone = Book::new(out, memory);
+    // a match, since both ways out need the book
     match alone.open() {
         Ok(_) => Ok(alone),
         Err(fault) => Err(given_back(alone, ExtractError::Refused(fault))),

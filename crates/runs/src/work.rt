@@ -32,7 +32,8 @@ fn make_calls<S: Store>(
 }
 
 // Opens a new book round the store, and makes every call of the list on it, whatever these are: accepted or refused, with a spent slip or
-// the one held, in an update or not. The answers go into a vector that is empty, with room for all of them.
+// the one held, in an update or not. The answers go into a vector that is empty, with room for all of them. Store and memory are what a book
+// is made of and gives back: a pair of them would be made only to be taken apart.
 //
 // What it leaves holds of every store, of every list and of all bytes: the calls with their answers are a run of the book; the file is the
 // opening bytes up to the last opening revision kept and then, byte for byte, the updates held; and each revision in it, opened alone and in
@@ -49,7 +50,7 @@ pub fn work_with<S: Store>(
     ensures remembers { had_memory result ≡ true }
 {
     let mut book = Book::new(store, memory);
-    // store and memory go back with the cause, and so not by `?`
+    // store and memory go back with the cause, and so not by `?`; a match, since both ways out need the book
     match book.open() {
         Ok(_) => {
             let mut slip = Slip::spent();
@@ -73,7 +74,7 @@ pub fn work<S: Store>(
 ) -> Result<Work<S>, Stopped<S, WorkError>>
     ensures { Worked S.Store.meaning store calls.now result }
 {
-    // store and memory go back with the cause, and so not by `?`
+    // store and memory go back with the cause, and so not by `?`; a match, since both ways out need them
     match Vec::with_capacity(heap, calls.len()) {
         Ok(answers) => work_with(store, memory, calls, answers),
         Err(_) => Err(Stopped {

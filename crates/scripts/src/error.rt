@@ -35,6 +35,7 @@ impl Mistake {
     }
 }
 
+// For each type with `words`, as `Trouble` of the test bench, one more impl: a foreign trait cannot be implemented for all that have words.
 impl fmt::Display for Mistake {
     ghost output = { λ m. Some (mistake_words m) };
 

@@ -79,6 +79,10 @@ pub entry_listed : (plan : List Planned) (n : ℕ) (o : Option Entry) → listed
 entry_listed plan n None e f = clash (cc)
 entry_listed plan n (Some x) e f = (slot_of x, e)
 
+pub entry_passed : (plan : List Planned) (n : ℕ) (o : Option Entry) → listed_at plan n ≡ option_map slot_of o ∷ listed_at plan (n + 1) → is_some o ≡ false → Passed plan n
+entry_passed plan n None e f = e
+entry_passed plan n (Some x) e f = clash (cc)
+
 -- the entry of each kind of number
 pub kept_entry : (n l : ℕ) → entry_for n l (cell_of Kept) ≡ None
 unfolding entry_for

@@ -1,4 +1,5 @@
-// Whether a change may be made in an open update, or why not.
+// Whether a change may be made in an open update, or why not. The contracts ask `TableOf file cells v`: the file and its revision are no values of
+// the code, but what a contract is said for. Cells, changes and number stand side by side: the first two are lent from two parts of the book for one call.
 ghost use Rattle.std.specs.Prelude.{◌≡◌};
 ghost use Rattle.format.specs.Book.{body_answer, decide_put, decide_remove, may_put};
 ghost use Rattle.format.specs.Bytes.{Bytes};
@@ -18,14 +19,8 @@ use objects::body::check_body;
 fn may_put(cells: &[Cell], held: &Held, n: usize) -> bool
     ensures { (file : Bytes) (v : Revision) → TableOf file cells.now v → result ≡ may_put v (update_of held.now) n }
 {
-    if n == 0 {
-        return false;
-    }
     let size = cells.len();
-    if n > size && n - size > held.new_numbers(size) {
-        return false;
-    }
-    !is_worn_out(cell_at(cells, n))
+    n != 0 && (n <= size || n - size <= held.new_numbers(size)) && !is_worn_out(cell_at(cells, n))
 }
 
 // What refuses a body that is put under a number.
@@ -59,7 +54,7 @@ pub fn decide_remove(cells: &[Cell], root: u32, held: &Held, n: usize) -> Result
     if !is_used(cell_at(cells, n)) {
         return Err(Fault::refused(Reason::NotInUse, n));
     }
-    // No `From` leads from `u32` to `usize`.
+    // No `From` leads from `u32` to `usize`, and `try_from` would answer an error that never comes.
     if n == root as usize {
         return Err(Fault::refused(Reason::RootNumber, n));
     }

@@ -6,7 +6,8 @@ mod digits;
 mod object;
 mod section;
 
-// At most `limit` bytes: the memory for them is there. The limit is told when a draft is made, and so it is no `Reserved`, whose size is a constant.
+// At most `limit` bytes: the memory for them is there. It is no `Reserved`: `Draft::new` is public and promises any limit, and a constant would be
+// one limit.
 #[derive(Drop)]
 pub struct Draft {
     bytes: Vec<u8>,

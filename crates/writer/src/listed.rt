@@ -1,4 +1,5 @@
-// The entries that an update lists.
+// The entries that an update lists. That a number is one of the plan's is asked where it is taken: a number with its plan would be a value made anew
+// for each number of a loop.
 ghost use Rattle.std.specs.Prelude.{◌≡◌, ◌+◌, ◌<◌, ◌≤◌, ◌∷◌, map, length, drop, IfSome};
 ghost use Rattle.std.specs.List.{position};
 ghost use Rattle.std.specs.Option.{option_map};

@@ -16,7 +16,8 @@ pub struct Newest<'a> {
     pub len: usize,
     // where its section starts
     pub offset: usize,
-    // bytes of the file, and the place among them from which its trailer's entries stand
+    // Bytes of the file, and the place among them from which its trailer's entries stand: two values, as `next_entry` takes them, which copies
+    // the entries, and as `Readable` speaks of them.
     pub window: &'a [u8],
     pub inside: usize,
     ghost small: { length cells.now ≤ most_size },

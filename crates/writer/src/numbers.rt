@@ -71,7 +71,8 @@ pub(crate) fn planned(before: Option<Cell>, change: Option<Content>, at: u64) ->
     }
 }
 
-// The object of a number, if its change puts one. Number and generation go on to `Draft::object` side by side, as it takes them.
+// The object of a number, if its change puts one. A struct of number and generation would be made for `Draft::object` alone: the one comes from the
+// count, the other from the cell.
 pub(crate) fn write_change(
     draft: &mut Draft,
     held: &Held,

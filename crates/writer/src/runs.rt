@@ -1,4 +1,5 @@
-// The runs of entries that an update lists.
+// The runs of entries that an update lists. Draft and plan are lent side by side: as methods of `Writer`, the functions would each promise besides
+// that the plan is kept. That a number is one of the plan's is asked in each: a number with its plan would be a value made anew for each number of a loop.
 ghost use Rattle.std.specs.Prelude.{◌≡◌, ◌+◌, ◌*◌, ◌<◌, ◌≤◌, [], length};
 ghost use Rattle.format.specs.Writing.{run_on, runs, runs_on, slots_on};
 ghost use Rattle.writer.specs.Drafts.{Adds, Room, count};
@@ -47,9 +48,10 @@ fn write_from(draft: &mut Draft, plan: &Plan, n: usize) -> usize
     ensures runs { RunsTo (rows_of plan.now) n result draft.old draft.new }
     ensures within { (n < result) × (result ≤ plan_count plan.now) }
 {
-    match entry_of(plan, n) {
-        Some(_) => write_run(draft, plan, n),
-        None => n + 1,
+    if entry_of(plan, n).is_some() {
+        write_run(draft, plan, n)
+    } else {
+        n + 1
     }
 }
 

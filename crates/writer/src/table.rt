@@ -15,7 +15,8 @@ pub(crate) fn cell_at(cells: &[Cell], n: usize) -> Option<Cell>
     cells.get(n).copied()
 }
 
-// Whether a number is in use.
+// Whether a number is in use. `book` asks a cell alone, among those that it counts, in words of its own: this speaks of a number that may have none,
+// in the words of the format, and one method for both would be one `matches!` with two contracts.
 pub(crate) fn is_used(cell: Option<Cell>) -> bool
     ensures { (file : Bytes) → result ≡ is_used (option_map (state_in file) cell) }
 {
@@ -26,8 +27,5 @@ pub(crate) fn is_used(cell: Option<Cell>) -> bool
 pub(crate) fn is_worn_out(cell: Option<Cell>) -> bool
     ensures { (file : Bytes) → result ≡ is_worn_out (option_map (state_in file) cell) }
 {
-    cell.is_some_and(|cell| match cell {
-        Cell::Used { .. } => false,
-        Cell::Free { generation, .. } => generation == 65535,
-    })
+    cell.is_some_and(|cell| matches!(cell, Cell::Free { generation, .. } if generation == 65535))
 }

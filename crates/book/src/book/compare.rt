@@ -56,14 +56,7 @@ fn same_object<S: Store>(store: &S, a: Body, b: Body) -> bool
     requires second { Lies (S.Store.meaning store.now).bytes b }
     ensures { result ≡ same_in (S.Store.meaning store.now).bytes a b }
 {
-    if a.generation != b.generation {
-        return false;
-    }
-    if a.end - a.start != b.end - b.start {
-        return false;
-    }
-    if a.start == b.start {
-        return true;
-    }
-    same_parts(store, a, b)
+    a.generation == b.generation
+        && a.end - a.start == b.end - b.start
+        && (a.start == b.start || same_parts(store, a, b))
 }

@@ -29,7 +29,7 @@ impl Memory {
 }
 
 impl<S: Store> Book<S> {
-    // A shut book round a store.
+    // A shut book round a store. Store and memory are what a book is made of and gives back: a pair of them would be made only to be taken apart.
     pub fn new(store: S, memory: Memory) -> Book<S>
         ensures store { store_in result ≡ store }
         ensures shut { (moment_of S.Store.meaning result).phase ≡ shut }

@@ -1,6 +1,8 @@
 // What the calls of an open update do.
 // The phase that each asks for is a clause and no type of its own: by a rule of the project one method (`perform`) matches the book's own state
 // and the call together and changes the state in place. So the state is a value in the book, and that match is where the clause comes from.
+// The newest row and its cells are asked for by the same two lines in both that hold a change. A method for the two would serve these alone: it lends
+// the whole book, and `draft` reads by the book's own memory between them and writes into it while the cells are looked at.
 ghost use Rattle.std.specs.Prelude.{◌≡◌, false, Ok};
 ghost use Rattle.format.specs.Book.{abandon, begin, put, remove};
 ghost use Rattle.book.specs.declared.call.Phase.TheVariants.{Standing, Updating};

@@ -1,4 +1,5 @@
-// The calls of a flat store.
+// The calls of a flat store. A buffer with `used` beside it is kept here, in an overlay and in the window of `records`, and they are no one type:
+// this memory is given from outside and of any size, an overlay's tail is an array of its own, and a window is filled by a store.
 ghost use Rattle.std.specs.Prelude.{◌≡◌, vec_len};
 ghost use Rattle.stores.specs.Figures.{Checked};
 ghost use Rattle.stores.specs.Flats.{FlatFits, Holds, flat_meaning, memory_of, start_of};

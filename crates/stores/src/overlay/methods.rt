@@ -1,4 +1,5 @@
-// The calls of an overlay.
+// The calls of an overlay. Its tail is a buffer with `used` beside it, as a flat store's memory is, and they are no one type: the tail is an array of
+// the overlay's own, and a flat store's memory is given from outside, of any size, and goes back.
 ghost use Rattle.std.specs.Prelude.{◌≡◌, ◌+◌, ◌-◌, ◌≤◌, ◌++◌, length, take, OnOk, nat_lt};
 ghost use Rattle.std.specs.List.{slice_get};
 ghost use Rattle.stores.specs.Figures.{Checked, longest, tail_size};

@@ -7,7 +7,8 @@ use super::Draft;
 use crate::ten_digits::TenDigits;
 
 impl Draft {
-    // An object: its number, its generation, and its body on lines of its own.
+    // An object: its number, its generation, and its body on lines of its own. Number and generation are given side by side, since no caller has them
+    // as one value.
     #[tactic(auto, using(locality::proofs::Written::framed_length, crate::proofs::Lengths::spaced_length, crate::proofs::Lengths::opened_length))]
     pub fn object(&mut self, number: u32, generation: u32, body: &[u8])
         requires { Room self.old (length (framed_bytes number generation body.now)) }

@@ -1,17 +1,27 @@
 // Making an open update, asking it, and changing it.
-ghost use Rattle.std.specs.Prelude.{◌≡◌, ◌≤◌, true, [], length, is_some, IfSome, IfOk, None};
+ghost use Rattle.std.specs.Prelude.{◌≡◌, ◌<◌, ◌≤◌, true, [], length, insert, is_some, IfSome, IfOk, None};
 ghost use Rattle.std.specs.Option.{option_map};
 ghost use Rattle.entries.specs.Cells.{part};
+ghost use Rattle.entries.specs.Reserving.{items_of};
 ghost use Rattle.format.specs.Book.{has_room, most_changes};
 ghost use Rattle.format.specs.Revisions.{find};
 ghost use Rattle.format.specs.Updates.{body, body_bytes, new_numbers, removed, with_change};
-ghost use Rattle.writer.specs.Changes.{content_in};
+ghost use Rattle.writer.specs.Changes.{content_in, place_for};
 ghost use Rattle.writer.specs.Helds.{Kept, pool_of, update_of};
 
 use super::{Held, MOST_BODY_BYTES, MOST_CHANGES};
 use crate::change::{Change, Content, change_of, count_new, place_for};
 use entries::reserved::Reserved;
 use std::alloc::{AllocError, Global};
+
+// Inserts a change in front of those of greater numbers. No method of `Held`: behind a body's bytes and before their change, `all` does not hold.
+fn insert_change(changes: &mut Reserved<Change, MOST_CHANGES>, one: Change)
+    requires { length (items_of changes.old) < most_changes }
+    ensures { items_of changes.new ≡ insert (items_of changes.old) (place_for one.number (items_of changes.old)) one }
+{
+    let place = place_for(changes.as_slice(), one.number);
+    changes.insert(place, one);
+}
 
 impl Held {
     // No changes, with room for all that an update may have.
@@ -90,12 +100,11 @@ impl Held {
         requires room { has_room (update_of self.old) (length bytes.now) ≡ true }
         ensures { update_of self.new ≡ with_change n (body bytes.now) (update_of self.old) }
     {
-        let place = place_for(self.changes.as_slice(), n);
         let start = self.body_bytes();
         let end = start + bytes.len();
         let content = Content::Body { start, end };
         self.bodies.extend_from_slice(bytes);
-        self.changes.insert(place, Change { number: n, content });
+        insert_change(&mut self.changes, Change { number: n, content });
     }
 
     // Removes an object, where the number has no change yet and there is room.
@@ -105,8 +114,7 @@ impl Held {
         requires room { has_room (update_of self.old) 0 ≡ true }
         ensures { update_of self.new ≡ with_change n removed (update_of self.old) }
     {
-        let place = place_for(self.changes.as_slice(), n);
         let content = Content::Removed;
-        self.changes.insert(place, Change { number: n, content });
+        insert_change(&mut self.changes, Change { number: n, content });
     }
 }

@@ -1,4 +1,4 @@
-// The objects of an update, number by number.
+// The objects of an update, number by number. `held` is the update, `newest` what it is written behind: two parts of the book, lent side by side.
 ghost use Rattle.std.specs.Prelude.{◌≡◌, ◌+◌, ◌<◌, ◌≤◌};
 ghost use Rattle.format.specs.Bytes.{Bytes};
 ghost use Rattle.format.specs.Revisions.{find};

@@ -27,6 +27,7 @@ impl Writer {
     }
 
     // Writes an update behind the newest revision of a file. It answers how many bytes the objects are: the section stands behind them.
+    // `held` is the update, `newest` what it is written behind: they are lent side by side from two parts of the book.
     // `usize` has no `From`: `as` is proved to lose nothing.
     pub fn write(&mut self, held: &Held, newest: &Newest) -> usize
         ensures { (file : Bytes) (v : Revision) → TableOf file newest.now.cells.now v → v.offset ≡ newest.now.offset → ReadAs newest.now.window.now newest.now.inside v.trailer → (bytes_of self.new ≡ update_bytes newest.now.len v (update_of held.now)) × (result ≡ length (update_objects newest.now.len v (update_of held.now))) }

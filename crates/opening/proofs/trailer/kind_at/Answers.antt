@@ -6,4 +6,4 @@ use Rattle.opening.proofs.Trailers.{entry_kind}
 use Rattle.opening.proofs.trailer.kind_at.Goals as goal
 
 pub returns : goal.returns
-returns c = λ es q ys e. c.kind.ensures ∙ ap (λ v. kind_in (shape_in v)) c.value_of.ensures ∙ entry_kind c.args.src.now c.args.inside (spelled c.args.name.now) es q ys e
+returns c = λ es q ys e. c.from.ensures ∙ ap (λ v. kind_in (shape_in v)) c.value_of.ensures ∙ entry_kind c.args.src.now c.args.inside (spelled c.args.name.now) es q ys e

@@ -1,4 +1,4 @@
-use Rattle.std.proofs.Common.{◌≡◌, MatchOption, length, ap, arith, rules}
+use Rattle.std.proofs.Common.{◌≡◌, MatchOption, length, arith, rules}
 use Rattle.records.specs.Tabled.{cells_held, revisions_held}
 use Rattle.records.proofs.Tabling.{last_within, newest_told}
 use Rattle.records.proofs.revision_tables.Tables.newest_start.Goals as goal

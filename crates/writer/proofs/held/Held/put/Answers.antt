@@ -15,13 +15,11 @@ extend_from_slice-requires c =
     let w = h.all in
     omega arith
 
-pub insert-requires : goal.insert-requires
-insert-requires c =
+pub insert_change-requires : goal.insert_change-requires
+insert_change-requires c =
     let h = c.args.self.now in
     let r = room (length c.args.bytes.now) (pool_of h) (items_of h.changes) c.requires.room in
-    let p = c.place_for-place.ensures.within in
-    let q = ap length c.as_slice.ensures in
-    (omega arith, (omega arith, omega arith))
+    omega arith
 
 pub invariant_of-self : goal.invariant_of-self
 unfolding body_length
@@ -36,9 +34,8 @@ invariant_of-self c =
     let start_is : start ≡ length pool = c.body_bytes-start.ensures ∙ h.all in
     let grown : length pool' ≡ length pool + length more = ap length c.extend_from_slice.ensures ∙ length-append pool more in
     let one : Change = record { number = c.args.n; content = Body start (start + length more) } in
-    let at : c.place_for-place.result ≡ place_for c.args.n cs = c.place_for-place.ensures.is ∙ ap (place_for c.args.n) c.as_slice.ensures in
-    let e : items_of c.insert.new.self ≡ insert cs (place_for c.args.n cs) one = c.insert.ensures ∙ ap (λ i. insert cs i one) at in
-    let view = body_put c.args.n start (start + length more) (length pool) pool more pool' cs (items_of c.insert.new.self) c.requires.free h.within refl start_is refl c.extend_from_slice.ensures e in
+    let e : items_of c.insert_change.new.changes ≡ insert cs (place_for c.args.n cs) one = c.insert_change.ensures in
+    let view = body_put c.args.n start (start + length more) (length pool) pool more pool' cs (items_of c.insert_change.new.changes) c.requires.free h.within refl start_is refl c.extend_from_slice.ensures e in
     let sum = ap body_bytes view ∙ bytes_with c.args.n (body more) (update_in pool cs) c.requires.free in
     let fits = new_within start (start + length more) (length pool') (omega arith) (omega arith) in
     record { within = rw e (still_within (length pool) (length pool') (place_for c.args.n cs) one cs h.within (omega arith) fits); all = omega arith }
@@ -51,6 +48,5 @@ returns c =
     let more = c.args.bytes.now in
     let start = c.body_bytes-start.result in
     let one : Change = record { number = c.args.n; content = Body start (start + length more) } in
-    let at : c.place_for-place.result ≡ place_for c.args.n cs = c.place_for-place.ensures.is ∙ ap (place_for c.args.n) c.as_slice.ensures in
-    body_put c.args.n start (start + length more) (length pool) pool more (items_of c.extend_from_slice.new.self) cs (items_of c.insert.new.self) c.requires.free h.within refl (c.body_bytes-start.ensures ∙ h.all) refl c.extend_from_slice.ensures
-    (c.insert.ensures ∙ ap (λ i. insert cs i one) at)
+    body_put c.args.n start (start + length more) (length pool) pool more (items_of c.extend_from_slice.new.self) cs (items_of c.insert_change.new.changes) c.requires.free h.within refl (c.body_bytes-start.ensures ∙ h.all) refl c.extend_from_slice.ensures
+    c.insert_change.ensures

@@ -8,13 +8,11 @@ use Rattle.writer.specs.Helds.{pool_of}
 use Rattle.writer.proofs.Changes.{body_removed, bytes_with, room, still_within}
 use Rattle.writer.proofs.held.Held.remove.Goals as goal
 
-pub insert-requires : goal.insert-requires
-insert-requires c =
+pub insert_change-requires : goal.insert_change-requires
+insert_change-requires c =
     let h = c.args.self.now in
     let r = room 0 (pool_of h) (items_of h.changes) c.requires.room in
-    let p = c.place_for-place.ensures.within in
-    let q = ap length c.as_slice.ensures in
-    (omega arith, (omega arith, omega arith))
+    omega arith
 
 pub invariant_of-self : goal.invariant_of-self
 unfolding body_length
@@ -24,9 +22,8 @@ invariant_of-self c =
     let cs = items_of h.changes in
     let w = h.all in
     let one : Change = record { number = c.args.n; content = Removed } in
-    let at : c.place_for-place.result ≡ place_for c.args.n cs = c.place_for-place.ensures.is ∙ ap (place_for c.args.n) c.as_slice.ensures in
-    let e : items_of c.insert.new.self ≡ insert cs (place_for c.args.n cs) one = c.insert.ensures ∙ ap (λ i. insert cs i one) at in
-    let view = body_removed c.args.n pool cs (items_of c.insert.new.self) c.requires.free e in
+    let e : items_of c.insert_change.new.changes ≡ insert cs (place_for c.args.n cs) one = c.insert_change.ensures in
+    let view = body_removed c.args.n pool cs (items_of c.insert_change.new.changes) c.requires.free e in
     let sum = ap body_bytes view ∙ bytes_with c.args.n removed (update_in pool cs) c.requires.free in
     record { within = rw e (still_within (length pool) (length pool) (place_for c.args.n cs) one cs h.within (omega arith) refl); all = omega arith }
 
@@ -35,5 +32,4 @@ returns c =
     let h = c.args.self.now in
     let cs = items_of h.changes in
     let one : Change = record { number = c.args.n; content = Removed } in
-    let at : c.place_for-place.result ≡ place_for c.args.n cs = c.place_for-place.ensures.is ∙ ap (place_for c.args.n) c.as_slice.ensures in
-    body_removed c.args.n (pool_of h) cs (items_of c.insert.new.self) c.requires.free (c.insert.ensures ∙ ap (λ i. insert cs i one) at)
+    body_removed c.args.n (pool_of h) cs (items_of c.insert_change.new.changes) c.requires.free c.insert_change.ensures
