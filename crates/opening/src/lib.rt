@@ -1,5 +1,6 @@
 // The readers of a cross-reference section over bytes in memory: its lines, its entries, its tail, the whole of it, and what its trailer says. The
 // memory for its rows is taken once.
+// A place that a reader answers counts in the bytes that it was given, as in `lexer`.
 #![tactic(auto)]
 
 pub mod bytes;

@@ -1,4 +1,4 @@
-// Records in files: opened, and drawn out.
+// Records in files: opened, and drawn out. `rt` and a path go in side by side, as std's own functions take them.
 ghost use Rattle.std.specs.Prelude.{IfOk};
 ghost use Rattle.stores.specs.Flats.{flat_meaning};
 ghost use Rattle.book.specs.Books.{Sound};

@@ -29,7 +29,8 @@ fn framed_cell(offset: usize, number: u64, generation: u32, frame: Frame) -> Res
     })
 }
 
-// What a row of a section at `offset` stands for: a free entry by itself, one in use by its object, which ends before the section.
+// What a row of a section at `offset` stands for: a free entry by itself, one in use by its object, which ends before the section. Store and window
+// are two values, as in `open.rt`.
 fn row_cell<S: Store>(
     store: &S,
     window: &mut Window,

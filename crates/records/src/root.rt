@@ -27,6 +27,7 @@ fn used_at(n: usize, generation: u32, cells: &[Cell]) -> bool
 }
 
 // Root, which a trailer gives as a number and a generation, is in use with that generation, by its row or, where it has none, in the table before.
+// The rows and the table are two values, as in `check_rows`.
 pub fn root_fits(root: u32, root_generation: u32, rows: &[Row], old: &[Cell]) -> bool
     ensures { (file : Bytes) → result ≡ root_fits root root_generation (rows_of rows.now) (states_in file old.now) }
 {

@@ -40,7 +40,8 @@ fn under_size(n: u64, size: i64) -> bool
     u64::try_from(size).is_ok_and(|size| n < size)
 }
 
-// An entry in use in a section at `offset`: its number, its generation, and where its object stands.
+// An entry in use in a section at `offset`: its number, its generation, and where its object stands. Here and below they come one by one: the number
+// from the row, the others from its entry, which a match took apart.
 fn used_fits(offset: usize, number: u64, object: u64, generation: u32) -> bool
     ensures { (size : ℤ) → result ≡ slot_fits offset size number (slot_of (Entry.Used object generation)) }
 {
@@ -90,7 +91,7 @@ pub fn highest(old: usize, rows: &[Row]) -> usize
         .fold(old, |size, row| size.max(row.number as usize + 1))
 }
 
-// The place of the first row of a number, searched from the front: the rows of a section ascend, but no fact of the list says it, and a map would take
+// The place of the first row of a number, as `place_from` of the definitions tells it, searched from the front: the rows of a section ascend, but no fact of the list says it, and a map would take
 // memory after opening. There are at most 1,638 rows.
 pub fn find_row(rows: &[Row], n: u64) -> Option<usize>
     ensures is { result ≡ place_from 0 n (numbers_of rows.now) }

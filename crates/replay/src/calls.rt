@@ -1,4 +1,4 @@
-// The calls of a store.
+// The calls of a store. The heap is lent beside the store: the one is the bench's, the other a part of its pile.
 ghost use Rattle.std.specs.Prelude.{◌≡◌, IfOk};
 ghost use Rattle.replay.specs.Calls.{Appended, BytesTold, ByteTold, Called, CutBack};
 ghost use Rattle.replay.specs.Hex.{hex_of};
@@ -38,6 +38,7 @@ fn cut<S: Store>(heap: Global, store: &mut S, n: usize) -> Answer
 fn byte<S: Store>(heap: Global, store: &S, place: usize) -> Answer
     ensures { ByteTold (S.Store.meaning store.now) place result }
 {
+    // two answers of one match: `map_or` would be no shorter
     let value = match store.byte_at(place) {
         Some(b) => Value::Number(usize::from(b)),
         None => Value::Nothing,

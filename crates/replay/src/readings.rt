@@ -1,4 +1,4 @@
-// What is read in given bytes.
+// What is read in given bytes. The heap is lent beside the bytes: the one is the bench's, the others a part of a command.
 ghost use Rattle.replay.specs.Readings.{BodyTold, ReadAs, TokensTold};
 
 use crate::answer::{Answer, Setback, Value, plain};

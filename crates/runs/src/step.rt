@@ -33,7 +33,8 @@ fn make_with<S: Store>(book: &mut Book<S>, slip: &mut Slip, call: &Call<'_>) -> 
     }
 }
 
-// Makes one call, whatever it is, and answers as the book does.
+// Makes one call, whatever it is, and answers as the book does. Book and slip are two values, lent to the book's calls one by one, so that they
+// agree (`Tied`) is asked: here, in `make_calls` and in `close`.
 pub(crate) fn make_call<S: Store>(
     book: &mut Book<S>,
     slip: &mut Slip,

@@ -45,7 +45,7 @@ fn changed(generation: u32, content: Content, at: u64) -> Planned
     }
 }
 
-// What becomes of a number that has none.
+// What becomes of a number that has none; 0 and 0 where it has no entry, as `cell` of the definitions has it.
 #[tactic(auto, unfolding(format::specs::Writing::cell))]
 fn unchanged(before: Option<Cell>) -> Planned
     ensures { (file : Bytes) (at : ℕ) → result ≡ planned_of (cell at (option_map (state_in file) before) None) }

@@ -18,7 +18,7 @@ pub enum Difference {
 }
 
 impl<S: Store> Book<S> {
-    // What became of the number n from revision j to revision k, if anything did.
+    // What became of the number n from revision j to revision k, if anything did. Two revisions are what is compared: a pair would be made for the call.
     pub fn differ(&self, j: usize, k: usize, n: usize) -> Result<Option<Difference>, Fault>
         ensures { result ≡ ask_differ (moment_of S.Store.meaning self.now) j k n }
     {

@@ -72,7 +72,8 @@ impl<S: Store> Book<S> {
         Ok(())
     }
 
-    // The row of revision k, or what refuses the question; `object` is the number that the question names, 0 if none.
+    // The row of revision k, or what refuses the question; `object` is the number that the question names, 0 if none, as
+    // the definitions and the printed fault have it.
     pub(super) fn row(&self, k: usize, object: usize) -> Result<Revision, Fault>
         ensures { RowAsked (moment_of S.Store.meaning self.now) (revisions_in self.now) (cells_in self.now) object k result }
     {

@@ -29,6 +29,7 @@ fn offset_before(offset: usize, prev: Option<i64>) -> Result<Option<usize>, Faul
     let Some(prev) = prev else {
         return Ok(None);
     };
+    // a match is plainer than `.ok().filter(..).map(Some).ok_or(..)`
     match usize::try_from(prev) {
         Ok(place) if place < offset => Ok(Some(place)),
         _ => Err(broken_rule(offset, 0)),

@@ -85,7 +85,8 @@ impl Held {
         self.len() < MOST_CHANGES && len <= MOST_BODY_BYTES - self.body_bytes()
     }
 
-    // The bytes of a body from its start to its end, as a change gives them.
+    // The bytes of a body from its start to its end, as a change gives them. That they lie among the bodies is asked (`Kept`), and no type says it: a
+    // `Content` is the places alone, and holds no update.
     pub fn body(&self, start: usize, end: usize) -> &[u8]
         requires { Kept self.now (Content.Body start end) }
         ensures { result.now ≡ part (pool_of self.now) start end }
