@@ -4,4 +4,4 @@ use Rattle.lexer.proofs.number.more_size.Goals as goal
 
 pub returns-clause-is : goal.returns-clause-is
 unfolding capped
-returns-clause-is c = omega (arith, c.saturating_mul.ensures, c.from.ensures, c.saturating_add.ensures, c.min.ensures)
+returns-clause-is c = omega (arith, c.from.ensures, c.from-2.ensures, c.min.ensures)
