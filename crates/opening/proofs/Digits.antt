@@ -1,5 +1,5 @@
 -- Digits, at a place of the window.
-use Rattle.std.proofs.Common.{◌≡◌, ℕ, zero, suc, ◌+◌, ◌-◌, ◌*◌, ◌^◌, ◌<◌, ◌≤◌, true, ◌⊎◌, [], ◌∷◌, length, take, drop, sym, refl, ap, ◌∙◌, inl, inr, pow-suc, arith, lit<}
+use Rattle.std.proofs.Common.{◌≡◌, ℕ, zero, suc, ◌+◌, ◌-◌, ◌*◌, ◌^◌, ◌<◌, ◌≤◌, min, true, ◌⊎◌, [], ◌∷◌, length, take, drop, sym, refl, ap, ◌∙◌, inl, inr, pow-suc, arith, lit<}
 use native.Mathlib.Nat.{pow-le-pow_right}
 use Rattle.std.specs.List.{prefix_len}
 use Rattle.std.proofs.lemmas.List.{at_drop_all, length-drop, length-take}
@@ -41,6 +41,11 @@ counted_none : (p : ℕ) (rest : Bytes) → 0 < length rest → counted ([], p, 
 unfolding counted is_empty
 counted_none p [] h = absurd (omega arith)
 counted_none p (x ∷ rest) h = refl
+
+-- none, or more than ten, where eleven bytes are looked at
+pub unfit : (n m : ℕ) → n ≡ min 11 m → (n ≡ 0) ⊎ ((n ≡ 0 → ⊥) × (10 < n)) → (m ≡ 0) ⊎ ((m ≡ 0 → ⊥) × (10 < m))
+unfit n m e (inl z) = inl (omega arith)
+unfit n m e (inr w) = inr (λ z. w.0 (omega arith), omega (arith, w.1))
 
 pub digits_short : (src : Bytes) (p base : ℕ) → length src ≤ p → digits (base + p) (drop p src) ≡ short
 unfolding digits counted is_empty

@@ -1,9 +1,9 @@
 -- Runs of digits, in front of bytes and at their end, and the numbers that they spell.
-use Rattle.std.proofs.Common.{◌≡◌, ℕ, suc, ◌+◌, ◌-◌, ◌*◌, ◌<◌, ◌≤◌, true, false, [], ◌∷◌, ◌++◌, reverse, length, get_or, take, drop, sym, refl, ap, ◌∙◌, arith}
+use Rattle.std.proofs.Common.{◌≡◌, ℕ, zero, suc, ◌+◌, ◌-◌, ◌*◌, ◌<◌, ◌≤◌, min, true, false, [], ◌∷◌, ◌++◌, reverse, length, get_or, take, drop, sym, refl, ap, ◌∙◌, arith}
 use Rattle.std.specs.List.{AllPass, prefix_len, suffix_len}
 use Rattle.std.proofs.lemmas.List.{take_more, take_all, take-append-drop, take-append-le, get_or-take, get_or-drop, get_or-reverse, length-drop, length-reverse, length-take, reverse-append, reverse-reverse}
 use Rattle.std.proofs.lemmas.List.Prefix.{front_rest}
-use Rattle.std.proofs.lemmas.List.Sums.{prefix_len_passes}
+use Rattle.std.proofs.lemmas.List.Sums.{prefix_len_passes, suffix_len-le-length}
 use Rattle.format.specs.Bytes.{Bytes, is_digit, span, value, value_on}
 use Rattle.locality.proofs.Cases.{cases}
 use Rattle.sections.proofs.Digits.{value_on_++}
@@ -27,6 +27,15 @@ run_on x xs e = rw e (omega arith)
 
 pub run_stops : (x : ℕ) (xs : Bytes) → is_digit x ≡ false → prefix_len is_digit (x ∷ xs) ≡ 0
 run_stops x xs e = rw e refl
+
+-- how long it is where no more than so many bytes are looked at
+pub run_within : (m : ℕ) (xs : Bytes) → prefix_len is_digit (take m xs) ≡ min m (prefix_len is_digit xs)
+run_within zero xs = omega arith
+run_within (suc m) [] = omega arith
+run_within (suc m) (x ∷ xs) =
+    cases (is_digit x)
+    (λ e. let a = run_on x (take m xs) e in let b = run_on x xs e in let w = run_within m xs in a ∙ omega arith)
+    (λ e. let b = run_stops x xs e in run_stops x (take m xs) e ∙ omega arith)
 
 -- bytes cut behind the first n of them, which are counted from p
 abbrev pub cut_at : ℕ → ℕ → Bytes → (Bytes × ℕ × Bytes)
@@ -77,15 +86,23 @@ module _ (xs : Bytes) (n m : ℕ) (h : m + n ≡ length xs) where
   last_length : length (reverse (drop m xs)) ≡ n
   last_length = length-reverse (drop m xs) ∙ length-drop m xs ∙ omega arith
 
+  pub last_back : take n (reverse xs) ≡ reverse (drop m xs)
+  last_back =
+      ap (take n) (reverse_cut xs m) ∙ take-append-le n (reverse (drop m xs)) (reverse (take m xs)) (omega (arith, last_length)) ∙ take_all n (reverse (drop m xs)) (omega (arith, last_length))
+
   pub last_taken : reverse (take n (reverse xs)) ≡ drop m xs
-  last_taken =
-      let a : take n (reverse xs) ≡ reverse (drop m xs) =
-      ap (take n) (reverse_cut xs m) ∙ take-append-le n (reverse (drop m xs)) (reverse (take m xs)) (omega (arith, last_length)) ∙ take_all n (reverse (drop m xs)) (omega (arith, last_length)) in
-      ap reverse a ∙ reverse-reverse (drop m xs)
+  last_taken = ap reverse last_back ∙ reverse-reverse (drop m xs)
 
   pub last_dropped : drop n (reverse xs) ≡ reverse (take m xs)
   last_dropped =
       ap (λ (k : ℕ). drop k (reverse xs)) (sym last_length) ∙ front_rest (reverse xs) (reverse (drop m xs)) (reverse (take m xs)) (reverse_cut xs m)
+
+-- the digits at the end, where no more than so many bytes are looked at
+pub end_within : (m : ℕ) (xs : Bytes) → suffix_len is_digit (drop (length xs - m) xs) ≡ min m (suffix_len is_digit xs)
+end_within m xs =
+    let l = suffix_len-le-length is_digit xs in
+    let b = last_back xs (min m (length xs)) (length xs - m) (omega arith) in
+    ap (prefix_len is_digit) (sym b) ∙ run_within (min m (length xs)) (reverse xs) ∙ omega arith
 
 -- the number that digits spell, one digit on
 pub spelt_none : 0 ≡ value []

@@ -7,7 +7,7 @@ ghost use Rattle.format.specs.Frames.{behind};
 ghost use Rattle.format.specs.Sections.{back_eol, back_digits, last_offset};
 
 use crate::lines::MOST_DIGITS;
-use crate::numbers::{digits_at_end, number};
+use crate::numbers::{last_digits, number};
 
 // An end of line.
 fn back_eol(bytes: &[u8]) -> Option<&[u8]>
@@ -33,7 +33,7 @@ fn back_exact<'a>(bytes: &'a [u8], word: &[u8]) -> Option<&'a [u8]>
 fn back_digits(bytes: &[u8]) -> Option<(u64, &[u8])>
     ensures { option_map (λ x. (x.0, reverse x.1.now)) result ≡ back_digits (span is_digit 0 (reverse bytes.now)) }
 {
-    let found = digits_at_end(bytes);
+    let found = last_digits(MOST_DIGITS + 1, bytes);
     if found == 0 || found > MOST_DIGITS {
         return None;
     }

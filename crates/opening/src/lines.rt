@@ -3,7 +3,7 @@ ghost use Rattle.std.specs.Prelude.{◌^◌, ◌≤◌};
 ghost use Rattle.format.specs.Lines.{eol, exact, exact_line, digits, digits_of, sub_line, number_line};
 ghost use Rattle.opening.specs.Parts.{Passes, Takes, Below, BothBelow};
 
-use crate::numbers::{digits_in_front, number};
+use crate::numbers::{first_digits, number};
 use crate::part::Lack;
 use lexer::reader::Lexer;
 
@@ -49,7 +49,7 @@ pub fn digits(at: Lexer<'_>) -> Result<(u64, usize), Lack>
         return Err(Lack::Short);
     }
     let rest = &at.src[at.place..];
-    let found = digits_in_front(rest);
+    let found = first_digits(MOST_DIGITS + 1, rest);
     if found == 0 || found > MOST_DIGITS {
         return Err(Lack::Misfit);
     }
@@ -63,7 +63,7 @@ pub fn digits_of(count: usize, at: Lexer<'_>) -> Result<(u64, usize), Lack>
     ensures small { Below (10 ^ count) result }
 {
     let rest = &at.src[at.place..];
-    let found = digits_in_front(rest);
+    let found = first_digits(count, rest);
     if found >= count {
         return Ok((number(&rest[..count]), at.place + count));
     }
