@@ -8,8 +8,7 @@ use Rattle.entries.specs.declared.entry.Row.{Row}
 use Rattle.entries.specs.Cells.{state_in, states_in}
 use Rattle.entries.specs.Rows.{rows_of, slot_of}
 use Rattle.std.proofs.lemmas.Bool.{cases_lt, ltb-true, ltb-false}
-use Rattle.std.specs.List as List
-use Rattle.std.specs.Option.{option_map}
+use Rattle.std.specs.List.{position_from}
 use Rattle.std.specs.Slice.{IsItemAt}
 use Rattle.locality.proofs.Cases.{cases}
 use Rattle.tables.proofs.Finds.{some_none}
@@ -81,22 +80,28 @@ unfolding root_fits used_at
 root_before root gen rows old e = rw (place_none 0 root rows (sym e), root_fits) refl
 
 -- the number of a cell that was found, and of a row that its section lists
-found_pair : (n : ℕ) (new : List (ℕ × Cell)) → option_map (λ (c : ℕ × Cell). c.1) (List.find (λ (c : ℕ × Cell). eqb c.0 n) new) ≡ find n new
+pub cell_at : (k n i : ℕ) (new : List (ℕ × Cell)) → position_from (λ (c : ℕ × Cell). eqb c.0 n) k new ≡ Some i → (d : ℕ × Cell) → (j : ℕ) × (i ≡ k + j) × (find n new ≡ Some (get_or new j d).1)
 unfolding find
-found_pair n [] = refl
-found_pair n (x ∷ xs) =
+cell_at k n i [] e d = some_none (sym e)
+cell_at k n i (x ∷ xs) e d =
     cases (eqb n x.0)
-    (λ q. let e : eqb x.0 n ≡ true = eqb_turned x.0 n ∙ q in rw (e, q, find) refl)
-    (λ q. let e : eqb x.0 n ≡ false = eqb_turned x.0 n ∙ q in rw (e, q, find) (found_pair n xs))
+    (λ q.
+    let t : eqb x.0 n ≡ true = eqb_turned x.0 n ∙ q in
+    let z : Some k ≡ Some i = rw t at e in
+    let y : k ≡ i = cc in
+    (zero, omega arith, rw (q, find) refl))
+    (λ q.
+    let t : eqb x.0 n ≡ false = eqb_turned x.0 n ∙ q in
+    let w = cell_at (k + 1) n i xs (rw t at e) d in
+    (suc w.0, omega (arith, w.1), rw (q, find) w.2))
 
-found_cell : (n : ℕ) (new : List (ℕ × Cell)) (o : Option (Bor (ℕ × Cell))) → option_map (λ (x : Bor (ℕ × Cell)). x.now) o ≡ List.find (λ (c : ℕ × Cell). eqb c.0 n) new → option_map (λ (x : Bor (ℕ × Cell)). x.now.1) o ≡ find n new
-found_cell n new None e = ap (option_map (λ (c : ℕ × Cell). c.1)) e ∙ found_pair n new
-found_cell n new (Some x) e = ap (option_map (λ (c : ℕ × Cell). c.1)) e ∙ found_pair n new
-
-pub cell_found : (n : ℕ) (new : List (ℕ × Cell)) (o : Option (Bor (ℕ × Cell))) (r : Option Cell) → option_map (λ (x : Bor (ℕ × Cell)). x.now) o ≡ List.find (λ (c : ℕ × Cell). eqb c.0 n) new → MatchOption o (r ≡ None) (λ x. IsSomeAnd r (λ c. c ≡ x.now.1)) → r ≡ find n new
-cell_found n new None r e m = m ∙ found_cell n new None e
-cell_found n new (Some x) None e m = absurd m
-cell_found n new (Some x) (Some c) e m = ap {B = Option Cell} (λ y. Some y) m ∙ found_cell n new (Some x) e
+pub cell_none : (k n : ℕ) (new : List (ℕ × Cell)) → position_from (λ (c : ℕ × Cell). eqb c.0 n) k new ≡ None → find n new ≡ None
+unfolding find
+cell_none k n [] e = refl
+cell_none k n (x ∷ xs) e =
+    cases (eqb n x.0)
+    (λ q. let t : eqb x.0 n ≡ true = eqb_turned x.0 n ∙ q in some_none (rw t at e))
+    (λ q. let t : eqb x.0 n ≡ false = eqb_turned x.0 n ∙ q in rw (q, find) (cell_none (k + 1) n xs (rw t at e)))
 
 none_same : (n : ℕ) (new : List (ℕ × Cell)) (rows : List Row) → numbers_in new ≡ numbers_of rows → find n new ≡ None → find n (rows_of rows) ≡ None
 unfolding find
