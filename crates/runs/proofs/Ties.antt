@@ -90,6 +90,19 @@ as_asked (Abandon true) e = refl
 as_asked (Abandon false) e = never (sym e)
 as_asked (Back k) e = refl
 
+-- a spent slip stays spent, by the definition of what is spent after a call
+pub spent_stays : (c : Call) (a : Answer (Unit {0})) → spent_after c a true ≡ true
+unfolding spent_after
+spent_stays c (Err f) = refl
+spent_stays open_file (Ok u) = refl
+spent_stays begin (Ok u) = refl
+spent_stays (put x n b) (Ok u) = refl
+spent_stays (remove x n) (Ok u) = refl
+spent_stays (commit x) (Ok u) = refl
+spent_stays (abandon x) (Ok u) = refl
+spent_stays (back k) (Ok u) = refl
+
+-- and so does one that was shown to a call of a list
 pub stays_spent : (d : book.Call) (a : Answer (Unit {0})) → shows_spent d ≡ true → held_after (call_of d) a true ≡ true
 stays_spent Open a e = refl
 stays_spent Begin a e = never (sym e)

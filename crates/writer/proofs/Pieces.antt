@@ -10,6 +10,12 @@ use Rattle.writer.specs.Parts.{SectionParts, RunsParts, CopiedParts, Parts}
 use Rattle.writer.specs.Pieces.{slot_of, slots_of, pair_bytes, size_bytes, close_bytes, line_bytes}
 use Rattle.writer.proofs.Lengths.{slots_count}
 
+-- entries, and then others
+pub slots_then : (ss ts : List Slot) (ys : Bytes) → slots_on (ss ++ ts) ys ≡ slots_on ss [] ++ slots_on ts ys
+unfolding slots_on
+slots_then [] ts ys = refl
+slots_then (s ∷ ss) ts ys = ap (λ zs. slot_bytes s ++ zs) (slots_then ss ts ys) ∙ sym (append_assoc (slot_bytes s) (slots_on ss []) (slots_on ts ys))
+
 slots_step : (d : Entry) (es : List Entry) (i : ℕ) → i < length es →
     slots_on (slots_of (take (suc i) es)) [] ≡ slots_on (slots_of (take i es)) [] ++ slot_bytes (slot_of (get_or es i d))
 unfolding slots_on
